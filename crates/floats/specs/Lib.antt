@@ -1,0 +1,3 @@
+pub mod Narrow
+pub mod Total
+pub mod Plain

@@ -1,0 +1,28 @@
+-- The size of a number, and values that take the place of others. Definitions only.
+use Prim.Native.Nat.{zero, suc}
+use mathlib.Core.Bool.{false, cond}
+use lib.IntN.{pos}
+use lib.Ieee.{Float, nan, inf, fin}
+use lib.Ieee.Scale.{finite}
+
+-- +0.0
+abbrev pub zeroF : Float
+zeroF = fin false 0 (pos 0)
+
+-- a value without its sign; of a zero, +0.0
+abbrev pub magnitude : Float → Float
+magnitude nan = nan
+magnitude (inf s) = inf false
+magnitude (fin s zero e) = zeroF
+magnitude (fin s (suc m) e) = fin false (suc m) e
+
+-- what is not finite reads as +0.0
+abbrev pub orZero : Float → Float
+orZero x = cond (finite x) x zeroF
+
+-- a zero is written as +0.0
+abbrev pub plainZero : Float → Float
+plainZero nan = nan
+plainZero (inf s) = inf s
+plainZero (fin s zero e) = zeroF
+plainZero (fin s (suc m) e) = fin s (suc m) e
