@@ -1,0 +1,12 @@
+pub mod Tests
+pub mod Fill
+pub mod Entries
+pub mod Ordered
+pub mod Sorting
+mod Merging
+mod Halves
+pub mod Keys
+pub mod Members
+pub mod Marking
+pub mod Stacks
+pub mod Turns

@@ -1,0 +1,21 @@
+-- The front of a list as a stack, the last entry first. Definitions only.
+use Prim.Native.Nat.{ℕ, zero, suc, _≤_, _<_}
+use mathlib.Core.Path.{_≡_}
+use mathlib.Core.List.{List, [], _∷_}
+use lib.ListN.{length, getD}
+
+-- the first k entries of a list, the last first
+unfoldable pub stack : List ℕ → ℕ → List ℕ
+stack l zero = []
+stack l (suc k) = getD l k 0 ∷ stack l k
+
+-- what a lent list holds as a stack, as far as the count r; its entries past that are free
+pub record Kept (res new : List ℕ) (r : ℕ) : Type 0 where
+  pub within : r ≤ length new
+  pub count : r ≡ length res
+  pub entries : stack new r ≡ res
+
+-- the entries fall strictly, the first of them below x
+abbrev pub Falls : ℕ → List ℕ → Type 0
+Falls x [] = Unit
+Falls x (y ∷ ys) = (y < x) × Falls y ys

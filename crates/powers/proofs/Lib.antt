@@ -1,0 +1,7 @@
+pub mod PowerLaws
+pub mod LimbLaws
+pub mod UnitLaws
+pub mod Never
+pub mod Order
+pub mod Repaired
+pub mod Known

@@ -1,0 +1,3 @@
+pub mod Limbs
+pub mod Pitch
+pub mod Known

@@ -1,0 +1,3 @@
+// Exact comparisons of powers of pitches.
+pub mod limbs;
+pub mod pitch;

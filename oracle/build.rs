@@ -1,0 +1,27 @@
+//! Finds the static library of the Rattle side, where it is asked for.
+
+use std::env;
+use std::path::Path;
+
+fn main() {
+    println!("cargo::rerun-if-env-changed=KIDDWYR_LIBRARY");
+    if env::var_os("CARGO_FEATURE_RATTLE").is_none() {
+        return;
+    }
+    // A relative folder is taken from the project's root.
+    let root = Path::new(env!("CARGO_MANIFEST_DIR")).join("..");
+    let given = env::var_os("KIDDWYR_LIBRARY").unwrap_or_else(|| "target/staticlib".into());
+    let folder = root.join(given);
+    let library = folder.join("libexports.a");
+    if !library.is_file() {
+        println!(
+            "cargo::error=there is no {}: make it with `rt staticlib exports` in the project's \
+             root, or set KIDDWYR_LIBRARY to its folder, absolute or from the root.",
+            library.display()
+        );
+        return;
+    }
+    println!("cargo::rerun-if-changed={}", library.display());
+    println!("cargo::rustc-link-search=native={}", folder.display());
+    println!("cargo::rustc-link-lib=static=exports");
+}

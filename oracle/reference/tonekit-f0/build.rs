@@ -1,0 +1,3 @@
+fn main() {
+    lay::lay("tonekit-f0");
+}

@@ -1,0 +1,364 @@
+//! The specification's own cases, and the smallest inputs of places where a natural reading goes
+//! wrong, run on the reference. Each says what comes out and what should.
+
+use crate::entry::{self, Answer, Given, Mark, Settings, DEFAULTS, PITCH};
+use crate::take::{listing, Take};
+use std::fmt::Debug;
+use tonekit_f0::probe as f0;
+use tonekit_segment::probe as segment;
+
+/// One case: its name, what it shows, and whether that came out.
+pub struct Case {
+    pub name: &'static str,
+    pub what: &'static str,
+    pub outcome: Result<(), String>,
+}
+
+/// Compares what came out with what the specification says.
+fn same<T: PartialEq + Debug>(got: T, wanted: T) -> Result<(), String> {
+    if got == wanted {
+        Ok(())
+    } else {
+        Err(format!("came out {got:?}, should be {wanted:?}"))
+    }
+}
+
+/// K1's whole output.
+pub const K1_LISTING: &str = "region 4 12\nnucleus 7 42200000\nboundary 4\nboundary 12\n";
+
+/// A take of `n` frames from one function for each track.
+fn take(
+    settings: Settings,
+    n: usize,
+    db: impl Fn(usize) -> f32,
+    pitch: impl Fn(usize) -> f32,
+    sonority: impl Fn(usize) -> f32,
+) -> Take {
+    let pitch: Vec<f32> = (0..n).map(pitch).collect();
+    Take {
+        settings,
+        db: (0..n).map(db).collect(),
+        voiced_p: pitch.iter().map(|&p| f32::from(p != 0.0)).collect(),
+        pitch,
+        sonority: (0..n).map(sonority).collect(),
+        vowel: vec![0; n],
+    }
+}
+
+/// -20 dB where `loud`, else -60.
+fn loudness(loud: bool) -> f32 {
+    if loud {
+        -20.0
+    } else {
+        -60.0
+    }
+}
+
+fn either(test: bool, yes: f32, no: f32) -> f32 {
+    if test {
+        yes
+    } else {
+        no
+    }
+}
+
+pub fn k1() -> Take {
+    take(
+        DEFAULTS,
+        16,
+        |i| loudness((4..=11).contains(&i)),
+        |i| either((5..=10).contains(&i), 200.0, 0.0),
+        |_| 0.75,
+    )
+}
+
+/// K2 with `second` Hz in its second run; K3 is the same with 237.
+pub fn k2(second: f32) -> Take {
+    take(
+        DEFAULTS,
+        32,
+        |i| loudness((4..=27).contains(&i)),
+        |i| match i {
+            6..=13 => 200.0,
+            17..=25 => second,
+            _ => 0.0,
+        },
+        |_| 0.75,
+    )
+}
+
+/// The take of K8 around its run: pitch at 10 to 29, loudest at the nucleus 15.
+pub fn k8() -> Take {
+    take(
+        DEFAULTS,
+        40,
+        |i| loudness((8..=31).contains(&i)),
+        |i| either((10..=29).contains(&i), 200.0, 0.0),
+        |i| match i {
+            0..=20 => 0.75,
+            21 => 0.5,
+            _ => 0.25,
+        },
+    )
+}
+
+/// A split beyond the region.
+pub fn split_outside() -> Take {
+    take(
+        DEFAULTS,
+        12,
+        |i| loudness(i < 5),
+        |_| 200.0,
+        |i| either(i < 6, 0.75, 0.25),
+    )
+}
+
+/// Two break edges, of which one is the region's start.
+pub fn one_edge_inside() -> Take {
+    let settings = Settings {
+        margin: 20.0,
+        dip: 30.0,
+        gap: 6,
+    };
+    take(
+        settings,
+        40,
+        |i| loudness((11..=13).contains(&i) || (21..=30).contains(&i)),
+        |i| match i {
+            4..=10 => 200.0,
+            14..=21 => 300.0,
+            _ => 0.0,
+        },
+        |_| 0.75,
+    )
+}
+
+/// A repaired pitch that the chain does not admit.
+pub fn below_the_chain() -> Take {
+    take(
+        DEFAULTS,
+        7,
+        |_| -60.0,
+        |i| either(i == 3, 76.0, 44.0),
+        |_| 0.75,
+    )
+}
+
+/// `speech` loud frames among 20.
+fn speech_frames(speech: usize) -> Vec<f32> {
+    (0..20)
+        .map(|i| loudness((5..5 + speech).contains(&i)))
+        .collect()
+}
+
+fn shown(take: &Take, wanted: &str) -> Result<(), String> {
+    same(listing(&take.write()).as_str(), wanted)
+}
+
+/// The lines of a listing that start with `word`, without it.
+fn numbers(take: &Take, word: &str) -> Vec<u32> {
+    let of = |line: &str| line.strip_prefix(word)?.split(' ').nth(1)?.parse().ok();
+    listing(&take.write()).lines().filter_map(of).collect()
+}
+
+/// The repaired value of 200 Hz between five `left` and five `right`.
+fn repaired(left: f32, right: f32) -> f32 {
+    let mut pitch = [left; 11];
+    pitch[5] = 200.0;
+    pitch[6..].fill(right);
+    entry::repair(&mut pitch).expect("these pitches are admitted");
+    pitch[5]
+}
+
+/// Whether a step from 200 Hz to `hz` stays in one stretch.
+fn joins(hz: f64) -> bool {
+    let estimates = [Some(200.0), Some(hz), Some(hz)];
+    f0::stretches(&estimates) == [(0, 3)]
+}
+
+fn k7() -> Vec<f64> {
+    let pcm = entry::pcm(&[1, 2, 1, 2]);
+    (1..=4).map(|lag| f0::nsdf(&pcm, 0, lag)).collect()
+}
+
+/// The extras entry on a take: frames, strengths and edges.
+fn extras(take: &Take, region: (u32, u32), nuclei: &[u32]) -> Answer<(Vec<Mark>, Vec<u32>)> {
+    let n = take.db.len();
+    let blank = Mark {
+        frame: 0,
+        strength: 0.0,
+    };
+    let (mut list, mut edges) = (vec![blank; n], vec![0; n]);
+    let (found, edged) = entry::extras(
+        &take.db,
+        &take.pitch,
+        &take.sonority,
+        take.settings,
+        region,
+        nuclei,
+        &mut list,
+        &mut edges,
+    )?;
+    Ok((list[..found].to_vec(), edges[..edged].to_vec()))
+}
+
+fn mark(frame: u32, strength: f32) -> Mark {
+    Mark { frame, strength }
+}
+
+/// Nuclei and boundaries of a listing.
+fn marked(take: &Take) -> (Vec<u32>, Vec<u32>) {
+    (numbers(take, "nucleus"), numbers(take, "boundary"))
+}
+
+pub fn all() -> Vec<Case> {
+    let case = |name, what, outcome| Case {
+        name,
+        what,
+        outcome,
+    };
+    let again = {
+        let mut take = below_the_chain();
+        take.pitch[3] = 38.0;
+        take
+    };
+    let lost_mark = take(
+        Settings {
+            margin: 0.0,
+            ..DEFAULTS
+        },
+        1,
+        |_| -20.0,
+        |_| 0.0,
+        |_| 0.5,
+    );
+    vec![
+        case("K1", "whole listing", shown(&k1(), K1_LISTING)),
+        case(
+            "K2",
+            "nuclei 13, 21; boundaries 4, 14, 17, 28",
+            same(marked(&k2(238.0)), (vec![13, 21], vec![4, 14, 17, 28])),
+        ),
+        case(
+            "K3",
+            "nucleus 13; boundaries 4, 28",
+            same(marked(&k2(237.0)), (vec![13], vec![4, 28])),
+        ),
+        case(
+            "K4",
+            "200 Hz against 118 halved, against 119 kept",
+            same(
+                [repaired(118.0, 118.0), repaired(119.0, 119.0)],
+                [100.0, 200.0],
+            ),
+        ),
+        case(
+            "K5",
+            "200 Hz against 110, 128 halved, against 110, 130 kept",
+            same(
+                [repaired(110.0, 128.0), repaired(110.0, 130.0)],
+                [100.0, 200.0],
+            ),
+        ),
+        case(
+            "K6",
+            "200 to 218 joins, 200 to 219 does not",
+            same([joins(218.0), joins(219.0)], [true, false]),
+        ),
+        case(
+            "K7",
+            "lags 1 to 4 give 0.8, 1, 0.8, 0",
+            same(k7(), vec![0.8, 1.0, 0.8, 0.0]),
+        ),
+        case(
+            "K8",
+            "split 22",
+            same(segment::split(&k8().sonority, 10, 29, 15), Some(22)),
+        ),
+        case(
+            "K8",
+            "extra 25, edge 22",
+            same(
+                extras(&k8(), (8, 32), &[15]),
+                Ok((vec![mark(25, 40.0)], vec![22])),
+            ),
+        ),
+        case(
+            "speech",
+            "4 speech frames: no region",
+            same(entry::region(&speech_frames(4), DEFAULTS), Ok(None)),
+        ),
+        case(
+            "speech",
+            "5 speech frames: a region",
+            same(
+                entry::region(&speech_frames(5), DEFAULTS),
+                Ok(Some((5, 10))),
+            ),
+        ),
+        case(
+            "dB",
+            "1,000 admitted, 1,001 refused with 4",
+            same(
+                [1000.0, 1001.0].map(|db| entry::region(&[db], DEFAULTS)),
+                [Ok(None), Err(4)],
+            ),
+        ),
+        case(
+            "split",
+            "a split beyond the region, of strength 0",
+            shown(
+                &split_outside(),
+                "region 0 5\nnucleus 1 42200000\nextra 8 00000000\nextra-edge 6\n\
+                 boundary 0\nboundary 5\n",
+            ),
+        ),
+        case(
+            "split",
+            "an empty region still splits",
+            same(
+                extras(&split_outside(), (0, 0), &[2]),
+                Ok((vec![mark(8, 0.0)], vec![6])),
+            ),
+        ),
+        case(
+            "break",
+            "one of two break edges inside",
+            same(
+                (
+                    numbers(&one_edge_inside(), "region"),
+                    marked(&one_edge_inside()),
+                ),
+                (vec![11], (vec![12, 21], vec![11, 14, 21, 31])),
+            ),
+        ),
+        case(
+            "repair",
+            "the chain writes 38 Hz",
+            shown(&below_the_chain(), "pitch 3 42180000\nregion none\n"),
+        ),
+        case("repair", "and refuses it", shown(&again, "refused 5\n")),
+        case(
+            "repair",
+            "which the other entries admit",
+            same(
+                {
+                    let given = Given {
+                        pitch: Some((&again.pitch, PITCH)),
+                        ..Given::default()
+                    };
+                    given.refusal()
+                },
+                0,
+            ),
+        ),
+        case(
+            "mark",
+            "an extra on a nucleus's frame",
+            same(
+                extras(&lost_mark, (0, 1), &[0]),
+                Ok((vec![mark(0, 0.0)], vec![])),
+            ),
+        ),
+    ]
+}

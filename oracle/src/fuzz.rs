@@ -1,0 +1,108 @@
+//! Random inputs, answered by both sides.
+
+use crate::bytes::hex;
+use crate::generate;
+use crate::kinds::{Form, Kind};
+use crate::random::Random;
+use crate::rattle;
+
+/// What came of comparing one kind.
+pub enum Outcome {
+    /// How many single comparisons agreed.
+    Agree(u64),
+    Differ(Difference),
+    /// Nothing on the other side answers this kind.
+    NoOther,
+}
+
+/// Where the two sides differ, on an input made as small as cutting items out makes it.
+pub struct Difference {
+    pub input: Vec<u8>,
+    pub reference: Vec<u8>,
+    pub other: Vec<u8>,
+    /// The place in the random sequence; none for a fixed input.
+    pub index: Option<u64>,
+}
+
+impl Difference {
+    pub fn describe(&self, kind: &Kind, seed: u64) -> String {
+        let again = match self.index {
+            Some(index) => format!("judge fuzz {} 1 {seed} {index}", kind.number),
+            None => format!("judge fuzz {} 0 {seed}", kind.number),
+        };
+        let other = match &self.other[..] {
+            [] => "no answer".to_string(),
+            bytes => hex(bytes),
+        };
+        format!(
+            "{}: a difference\n  again      {again}\n  input      {}\n  reference  {}\n  other      {other}",
+            kind.name,
+            hex(&self.input),
+            hex(&self.reference),
+        )
+    }
+}
+
+/// Compares the fixed inputs and `count` random ones from place `first` on.
+pub fn compare(kind: &Kind, count: u64, seed: u64, first: u64) -> Outcome {
+    let fixed = generate::fixed(kind.number).into_iter().map(|i| (i, None));
+    let random = (first..first + count).map(|index| {
+        let mut random = Random::of(seed, kind.number, index);
+        (generate::input(kind.number, &mut random), Some(index))
+    });
+    let mut agreed = 0;
+    for (input, index) in fixed.chain(random) {
+        match both(kind, &input) {
+            None => return Outcome::NoOther,
+            Some((reference, other)) if reference == other => {
+                agreed += kind.comparisons(&input) as u64;
+            }
+            Some((reference, other)) => {
+                let found = Difference {
+                    input,
+                    reference,
+                    other,
+                    index,
+                };
+                return Outcome::Differ(smaller(kind, found));
+            }
+        }
+    }
+    Outcome::Agree(agreed)
+}
+
+/// Both answers, the reference's first; none where one side has none.
+fn both(kind: &Kind, input: &[u8]) -> Option<(Vec<u8>, Vec<u8>)> {
+    let reference = kind.answer(input)?;
+    Some((reference, rattle::answer(kind.number, input)?))
+}
+
+/// Cuts items out, half of them at first and then fewer, as long as a difference stays.
+fn smaller(kind: &Kind, mut found: Difference) -> Difference {
+    let Form::Items { head, item } = kind.form else {
+        return found;
+    };
+    let items = |input: &[u8]| (input.len() - head) / item;
+    let mut cut = items(&found.input) / 2;
+    while cut > 0 {
+        let mut at = 0;
+        while at + cut <= items(&found.input) {
+            let from = head + at * item;
+            let mut less = found.input.clone();
+            less.drain(from..from + cut * item);
+            match both(kind, &less) {
+                Some((reference, other)) if reference != other => {
+                    found = Difference {
+                        input: less,
+                        reference,
+                        other,
+                        index: found.index,
+                    };
+                }
+                _ => at += cut,
+            }
+        }
+        cut /= 2;
+    }
+    found
+}

@@ -1,0 +1,105 @@
+//! The commands.
+
+use judge::fuzz::Outcome;
+use judge::kinds::Kind;
+use judge::{bench, cases, fuzz, rattle, replay, take};
+use std::io::{self, Read, Write};
+use std::process::ExitCode;
+
+const USAGE: &str = "\
+judge COMMAND
+  cases                             the specification's cases on the reference
+  marks                             take file on standard input, listing on standard output
+  replay [SEED [KINDS]]             the replay list to standard output (SEED 1, KINDS 1-30)
+  fuzz KINDS COUNT SEED [FIRST]     fixed inputs and COUNT random ones of each kind, both sides,
+                                    from place FIRST (0) of the random sequence on
+  bench [WORDS]                     both sides' times, of stages and takes whose line holds WORDS
+KINDS are numbers, ranges of them or names of README.md's table, with commas between, or `all`.
+fuzz and bench compare with the static library where it is linked (feature `rattle`); the script
+`run` sees to that.
+Exit status: 0 all as it should be, 1 a case or a comparison failed, 2 bad usage.";
+
+/// The seed and the kinds of the replay list, where none are named.
+const SEED: u64 = 1;
+const SMALL: &str = "1-30";
+
+fn main() -> ExitCode {
+    let words: Vec<String> = std::env::args().skip(1).collect();
+    let words: Vec<&str> = words.iter().map(String::as_str).collect();
+    match run(&words) {
+        Some(Ok(true)) => ExitCode::SUCCESS,
+        Some(Ok(false)) => ExitCode::from(1),
+        Some(Err(e)) => {
+            eprintln!("judge: {e}");
+            ExitCode::from(2)
+        }
+        None => {
+            eprintln!("{USAGE}");
+            ExitCode::from(2)
+        }
+    }
+}
+
+/// Whether all was as it should be; `None` where the words are no command.
+fn run(words: &[&str]) -> Option<io::Result<bool>> {
+    Some(match words {
+        ["cases"] => Ok(run_cases()),
+        ["marks"] => marks(),
+        ["replay"] => run_replay(SEED, SMALL)?,
+        ["replay", seed] => run_replay(seed.parse().ok()?, SMALL)?,
+        ["replay", seed, kinds] => run_replay(seed.parse().ok()?, kinds)?,
+        ["fuzz", kind, count, seed] => run_fuzz(kind, count, seed, "0")?,
+        ["fuzz", kind, count, seed, first] => run_fuzz(kind, count, seed, first)?,
+        ["bench", only @ ..] => {
+            bench::table(&only.join(" "), |line| println!("{line}"));
+            Ok(true)
+        }
+        _ => return None,
+    })
+}
+
+fn out(bytes: &[u8]) -> io::Result<bool> {
+    io::stdout().write_all(bytes).map(|()| true)
+}
+
+fn marks() -> io::Result<bool> {
+    let mut file = Vec::new();
+    io::stdin().read_to_end(&mut file)?;
+    out(take::listing(&file).as_bytes())
+}
+
+fn run_cases() -> bool {
+    let cases = cases::all();
+    for case in &cases {
+        match &case.outcome {
+            Ok(()) => println!("{:<7}ok     {}", case.name, case.what),
+            Err(why) => println!("{:<7}WRONG  {}: {why}", case.name, case.what),
+        }
+    }
+    let wrong = cases.iter().filter(|c| c.outcome.is_err()).count();
+    println!("{} cases, {wrong} wrong", cases.len());
+    wrong == 0
+}
+
+fn run_replay(seed: u64, kinds: &str) -> Option<io::Result<bool>> {
+    Some(out(&replay::list(seed, &Kind::by_words(kinds)?)))
+}
+
+fn run_fuzz(kinds: &str, count: &str, seed: &str, first: &str) -> Option<io::Result<bool>> {
+    let (count, seed) = (count.parse().ok()?, seed.parse().ok()?);
+    let first = first.parse().ok()?;
+    let kinds = Kind::by_words(kinds)?;
+    println!("the reference against {}", rattle::SIDE);
+    let mut all_agree = true;
+    for kind in kinds {
+        match fuzz::compare(kind, count, seed, first) {
+            Outcome::Agree(agreed) => println!("{}: {agreed} answers agree", kind.name),
+            Outcome::NoOther => println!("{}: nothing to compare with", kind.name),
+            Outcome::Differ(difference) => {
+                println!("{}", difference.describe(kind, seed));
+                all_agree = false;
+            }
+        }
+    }
+    Some(Ok(all_agree))
+}
