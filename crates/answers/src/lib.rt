@@ -2,8 +2,11 @@
 // answers can be replayed, and one function compared, whatever the kind. Numbers are written with the most
 // significant byte first, floats by their bit patterns. An input that a function does not take has an
 // answer that no reference gives.
+pub mod curves;
 pub mod fields;
 pub mod shared;
+mod tracks;
+pub mod voices;
 
 // Writes the answer to an input of a kind to the front of out, and returns its length; 0 for a kind
 // that is not known.
@@ -17,6 +20,11 @@ pub fn answer(kind: u8, input: &[u8], out: &mut [u8]) -> usize {
         6 => shared::pitch_breaks(input, out),
         7 => shared::steps(input, out),
         8 => shared::octaves(input, out),
+        16 | 22 => curves::curve(kind, 0, input, out),
+        23 | 24 | 25 => curves::curve(kind, 1, input, out),
+        17 | 18 | 19 | 20 => curves::curve(kind, 2, input, out),
+        21 => curves::curve(kind, 3, input, out),
+        26 | 27 | 28 | 29 | 30 => voices::voice(kind, input, out),
         _ => 0,
     }
 }

@@ -1,7 +1,55 @@
-// What the judge links: every answer under one C name. A slice is a pointer and a length there.
+// What the judge links: every answer under one C name, and each stage by itself to be timed. A slice
+// is a pointer and a length there. Whoever calls a stage keeps to its `requires`.
+use region::Region;
+use region::Settings;
+use smooth::extrema::Extremum;
+ghost use Prim.Native.Nat.{_≤_};
+ghost use lib.ListN.{length};
 
 // The answer to an input of a kind, at the front of out; returns its length.
 #[no_mangle]
 pub extern "C" fn kiddwyr_answer(kind: u32, input: &[u8], out: &mut [u8]) -> usize {
     answers::answer((kind % 256) as u8, input, out)
+}
+
+// Floor, threshold and region; the start times 2^32 plus the end, 0 for no region.
+#[no_mangle]
+pub extern "C" fn kiddwyr_region(db: &[f32], margin: f32) -> u64
+    requires { ⌜ length (now db) ≤ 2048 ⌝ }
+{
+    let p = Settings {
+        margin,
+        dip: 2.0,
+        gap: 6,
+    };
+    match region::speech_region(db, p) {
+        Region::Nowhere => 0,
+        Region::Span(start, end) => (start as u64) * 0x1_0000_0000 + (end as u64),
+    }
+}
+
+#[no_mangle]
+pub extern "C" fn kiddwyr_level(db: &[f32], out: &mut [f32])
+    requires { ⌜ (length (now db) ≤ length (now out)) × (length (now db) ≤ 2048) ⌝ }
+{
+    smooth::level::smoothed_db(db, out);
+}
+
+// Maxima, then minima over them in the same list; returns the count of the minima.
+#[no_mangle]
+pub extern "C" fn kiddwyr_extrema(s: &[f32], out: &mut [u32]) -> usize
+    requires { ⌜ (length (now s) ≤ length (now out)) × (length (now s) ≤ 2048) ⌝ }
+{
+    smooth::extrema::local_extrema(s, 0, s.len(), Extremum::Max, out);
+    smooth::extrema::local_extrema(s, 0, s.len(), Extremum::Min, out)
+}
+
+// Long runs, then syllable runs, then dropouts in the same lists; returns the count of the dropouts.
+#[no_mangle]
+pub extern "C" fn kiddwyr_runs(pitch: &[f32], a: &mut [u32], b: &mut [u32]) -> usize
+    requires { ⌜ (length (now pitch) ≤ 2048) × (length (now pitch) ≤ length (now a)) × (length (now pitch) ≤ length (now b)) ⌝ }
+{
+    runs::voiced::long_runs(pitch, a, b);
+    runs::syllables::syllable_runs(pitch, a, b);
+    runs::syllables::dropouts(pitch, a, b)
 }

@@ -1,0 +1,3 @@
+pub mod Nsdf
+pub mod Running
+pub mod Period

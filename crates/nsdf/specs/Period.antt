@@ -1,0 +1,85 @@
+-- The pitch of a take around a sample, from the peaks of its periodicity. Definitions only.
+use Prim.Native.Nat.{ℕ, zero, suc, _+_, _-_}
+use mathlib.Core.Bool.{Bool, true, false, cond, _&&_}
+use mathlib.Core.List.{List, [], _∷_, map, foldl}
+use lib.IntN.{ℤ, pos}
+use lib.ListN.{getD}
+use lib.Ieee.{Float, nan, inf, binary64, round, add, sub, mul, div, neg, lt, le, ofInt}
+use Rattle.lists.specs.Results.{keep}
+use Rattle.nsdf.specs.declared.period.Estimate.{Estimate}
+use Rattle.nsdf.specs.declared.period.Estimate.the-variants.{Nothing, Hz}
+use Rattle.nsdf.specs.declared.period.Peak.{Peak}
+use Rattle.nsdf.specs.declared.period.Peak.the-variants.{At, Missing}
+use Rattle.nsdf.specs.Nsdf.{window, nsdf}
+
+-- the f64 nearest to a / b
+abbrev pub near : ℕ → ℕ → Float
+near a b = round binary64 false a b
+
+-- f at i, i + 1, ..: n values
+unfoldable pub tabulate : (ℕ → Float) → ℕ → ℕ → List Float
+tabulate f i zero = []
+tabulate f i (suc n) = f i ∷ tabulate f (suc i) n
+
+-- the periodicity at lags 31 to 230: lag 31 + k stands at k
+unfoldable pub measured : List ℤ → List Float
+measured w = tabulate (nsdf w) 31 200
+
+-- the value at k
+abbrev pub at : List Float → ℕ → Float
+at d k = getD d k nan
+
+-- above its left neighbour and not below its right
+abbrev pub isPeak : List Float → ℕ → Bool
+isPeak d k = lt (at d (k - 1)) (at d k) && le (at d (k + 1)) (at d k)
+
+-- the larger of two values
+abbrev pub larger : Float → Float → Float
+larger x y = cond (lt x y) y x
+
+-- the highest of the peaks at lags 32 to 229
+unfoldable pub bestPeak : List Float → Float
+bestPeak d = foldl larger (inf true) (map (at d) (keep (isPeak d) 1 198))
+
+-- a peak at or above `least`
+abbrev pub isNear : List Float → Float → ℕ → Bool
+isNear d least k = isPeak d k && le least (at d k)
+
+-- the front of a list
+abbrev pub first : List ℕ → Peak
+first [] = Missing
+first (k ∷ ks) = At k
+
+-- the first of the peaks at or above `least`
+unfoldable pub firstPeak : List Float → Float → Peak
+firstPeak d least = first (keep (isNear d least) 1 198)
+
+-- a - 2 b + c
+abbrev pub bend : Float → Float → Float → Float
+bend a b c = add binary64 (sub binary64 a (mul binary64 (near 2 1) b)) c
+
+-- how far the top of the parabola through three values lies from the middle one; 0 where it has no top
+abbrev pub shift : Float → Float → Float → Float
+shift a b c =
+    cond (lt (bend a b c) (near 0 1)) (div binary64 (mul binary64 (near 1 2) (sub binary64 a c)) (bend a b c)) (near 0 1)
+
+-- brought to -1/2 or 1/2 from outside
+abbrev pub clamped : Float → Float
+clamped x = cond (lt x (neg (near 1 2))) (neg (near 1 2)) (cond (lt (near 1 2) x) (near 1 2) x)
+
+-- the lag of the peak at k, moved to the top of the parabola through it and its neighbours
+unfoldable pub refined : List Float → ℕ → Float
+refined d k = add binary64 (ofInt binary64 (pos (31 + k))) (clamped (shift (at d (k - 1)) (at d k) (at d (k + 1))))
+
+-- 16,000 samples a second over the refined lag
+abbrev pub hertz : List Float → Peak → Estimate
+hertz d Missing = Nothing
+hertz d (At k) = Hz (div binary64 (near 16000 1) (refined d k))
+
+-- none where the best is below 0.6; else the first peak at or above 0.9 times the best
+unfoldable pub estimated : List Float → Estimate
+estimated d = cond (lt (bestPeak d) (near 6 10)) Nothing (hertz d (firstPeak d (mul binary64 (near 9 10) (bestPeak d))))
+
+-- the pitch around a sample, from the window that is centred there
+unfoldable pub periodHz : List ℤ → ℕ → Estimate
+periodHz xs centre = estimated (measured (window xs centre))

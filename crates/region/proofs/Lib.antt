@@ -1,0 +1,4 @@
+pub mod Rank
+pub mod Quiet
+pub mod Frames
+pub mod Spans

@@ -1,0 +1,6 @@
+pub mod Grouping
+pub mod Spacing
+pub mod Spans
+pub mod Walking
+pub mod Syllabic
+pub mod Nearest

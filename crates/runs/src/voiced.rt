@@ -1,0 +1,145 @@
+// The voiced frames of a pitch track, in which 0 is no pitch, and the runs that they make.
+ghost use mathlib.Core.Path.{_≡_};
+ghost use mathlib.Core.Bool.{true, cond};
+ghost use mathlib.Core.List.{_∷_, map};
+ghost use Prim.Native.Nat.{_+_, _≤_, _<_, min};
+ghost use lib.ListN.{length};
+ghost use lib.Ieee.{ne};
+ghost use Rattle.lists.specs.Results.{Listed, Pushed};
+ghost use Rattle.runs.specs.Runs.{none, voiced, voicedFrames, sole, joined, voicedRuns, long, span, longRuns, sizes, firsts, lasts};
+ghost use Rattle.runs.specs.Ahead.{runsFrom, NextVoiced};
+
+// Two voiced frames that are at most this far apart share a run.
+const MAX_STEP: usize = 3;
+// A run with at least this many voiced frames is long.
+const MIN_RUN_FRAMES: u32 = 5;
+
+// A voiced run: its first and last frame, and how many voiced frames it has.
+pub struct Run {
+    pub first: u32,
+    pub last: u32,
+    pub size: u32,
+}
+
+// Writes the voiced frames, in order, and returns how many they are: 0 in a track with no pitch.
+pub fn voiced_frames(pitch: &[f32], out: &mut [u32]) -> usize
+    requires { ⌜ (length (now pitch) ≤ 2048) × (length (now pitch) ≤ length (now out)) ⌝ }
+    ensures { λ r. ⌜ Listed (voicedFrames (now (pitch .entry))) (now (out .entry)) (now (out .exit)) r ⌝ }
+{
+    let mut n: usize = 0;
+    let mut i: usize = 0;
+    while i < pitch.len() {
+        if pitch[i] != 0.0 {
+            out[n] = i as u32;
+            n += 1;
+        }
+        i += 1;
+    }
+    n
+}
+
+// The first voiced frame from i on, or the track's length where there is none.
+fn next_voiced(pitch: &[f32], i: usize) -> usize
+    requires { ⌜ i ≤ length (now pitch) ⌝ }
+    ensures { λ r. ⌜ NextVoiced (now (pitch .entry)) i r ⌝ }
+{
+    let mut at = i;
+    while at < pitch.len() {
+        if pitch[at] != 0.0 {
+            return at;
+        }
+        at += 1;
+    }
+    at
+}
+
+// One past the last frame that, if it is voiced, still belongs to the run, in a track of n frames.
+fn reach(run: Run, n: usize) -> usize
+    ensures { λ r. ⌜ r ≡ min (run .last + 4) n ⌝ }
+{
+    let end = run.last as usize + MAX_STEP + 1;
+    if end < n { end } else { n }
+}
+
+// The run with frame f, if that has a pitch; else the run as it is.
+fn extended(run: Run, hz: f32, f: u32) -> Run
+    requires { ⌜ run .size < 2048 ⌝ }
+    ensures { λ r. ⌜ r ≡ cond (ne hz none) (joined run (sole f)) run ⌝ }
+{
+    if hz != 0.0 {
+        Run {
+            first: run.first,
+            last: f,
+            size: run.size + 1,
+        }
+    } else {
+        run
+    }
+}
+
+// The voiced run that begins with the voiced frame f.
+fn run_from(pitch: &[f32], f: usize) -> Run
+    requires { ⌜ (length (now pitch) ≤ 2048) × (f < length (now pitch)) × (voiced (now pitch) f ≡ true) ⌝ }
+    ensures { λ r. ⌜ (runsFrom (now (pitch .entry)) f ≡ r ∷ runsFrom (now (pitch .entry)) (r .last + 1)) × (f ≤ r .last) × (r .last < length (now (pitch .entry))) ⌝ }
+{
+    let mut run = Run {
+        first: f as u32,
+        last: f as u32,
+        size: 1,
+    };
+    let mut end = reach(run, pitch.len());
+    let mut i = f + 1;
+    while i < end {
+        run = extended(run, pitch[i], i as u32);
+        end = reach(run, pitch.len());
+        i += 1;
+    }
+    run
+}
+
+// Writes the voiced runs, in order: their first frames, their last frames and how many voiced frames they have. Returns how many runs there are.
+pub fn voiced_runs(pitch: &[f32], first: &mut [u32], last: &mut [u32], size: &mut [u32]) -> usize
+    requires { ⌜ (length (now pitch) ≤ 2048) × (length (now pitch) ≤ length (now first)) × (length (now pitch) ≤ length (now last)) × (length (now pitch) ≤ length (now size)) ⌝ }
+    ensures { λ r. ⌜ (Listed (firsts (map span (voicedRuns (now (pitch .entry))))) (now (first .entry)) (now (first .exit)) r) × (Listed (lasts (map span (voicedRuns (now (pitch .entry))))) (now (last .entry)) (now (last .exit)) r) × (Listed (sizes (voicedRuns (now (pitch .entry)))) (now (size .entry)) (now (size .exit)) r) ⌝ }
+{
+    let mut n: usize = 0;
+    let mut i = next_voiced(pitch, 0);
+    while i < pitch.len() {
+        let run = run_from(pitch, i);
+        first[n] = run.first;
+        last[n] = run.last;
+        size[n] = run.size;
+        n += 1;
+        i = next_voiced(pitch, run.last as usize + 1);
+    }
+    n
+}
+
+// Writes a run at the count n, if it is long, and returns the new count.
+fn push_long(run: Run, first: &mut [u32], last: &mut [u32], n: usize) -> usize
+    requires { ⌜ (long run ≡ true → (n < length (now first)) × (n < length (now last))) ⌝ }
+    ensures { λ r. ⌜ (Pushed (long run) (run .first) n (now (first .entry)) (now (first .exit)) r) × (Pushed (long run) (run .last) n (now (last .entry)) (now (last .exit)) r) ⌝ }
+{
+    if MIN_RUN_FRAMES <= run.size {
+        first[n] = run.first;
+        last[n] = run.last;
+        n + 1
+    } else {
+        n
+    }
+}
+
+// Writes the first and last frames of the long runs, in order, and returns how many they are.
+pub fn long_runs(pitch: &[f32], first: &mut [u32], last: &mut [u32]) -> usize
+    requires { ⌜ (length (now pitch) ≤ 2048) × (length (now pitch) ≤ length (now first)) × (length (now pitch) ≤ length (now last)) ⌝ }
+    ensures { λ r. ⌜ (Listed (firsts (longRuns (now (pitch .entry)))) (now (first .entry)) (now (first .exit)) r) × (Listed (lasts (longRuns (now (pitch .entry)))) (now (last .entry)) (now (last .exit)) r) ⌝ }
+{
+    let mut n: usize = 0;
+    let mut i = next_voiced(pitch, 0);
+    while i < pitch.len() {
+        let run = run_from(pitch, i);
+        n = push_long(run, first, last, n);
+        i = next_voiced(pitch, run.last as usize + 1);
+    }
+    n
+}

@@ -1,0 +1,48 @@
+-- Walks along a list: what is worked out so far and what the rest gives make the answer for the whole, at every step. Assumes nothing.
+use mathlib.Core.Path.{_≡_}
+use mathlib.Core.Bool.{Bool, true, false, cond}
+use mathlib.Core.List.{List}
+use Prim.Native.Nat.{ℕ, _+_, _≤_, _<_, min, max}
+use native.Mathlib.Omega.{arith}
+use lib.Dec.{leb, ltb}
+use lib.ListN.{length, drop, getD, drop-of-length-le}
+use Rattle.lists.specs.Results.{moreIf, consIf, filter}
+use Rattle.lists.proofs.Fill.{drop-step, filter-step, filter-over}
+use Rattle.select.specs.Order.{atMost, lowest, highest, lowestAbove}
+
+-- ---- one step, at the entry k
+module _ (l : List ℕ) (i : ℕ) (h : i < length l) where
+  pub count-step : (x n : ℕ) → n + atMost x (drop i l) ≡ n + moreIf (leb (getD l i 0) x) 0 + atMost x (drop (i + 1) l)
+  count-step x n = rw (drop-step l i 0 h) (go (leb (getD l i 0) x) (atMost x (drop (i + 1) l)))
+    where
+      go : (b : Bool) (m : ℕ) → n + moreIf b m ≡ n + moreIf b 0 + m
+      go true m = omega arith
+      go false m = omega arith
+
+  pub lowest-step : (b : ℕ) → min b (lowest (drop i l)) ≡ min (min (getD l i 0) b) (lowest (drop (i + 1) l))
+  lowest-step b = rw (drop-step l i 0 h) (omega arith)
+
+  pub highest-step : (b : ℕ) → max b (highest (drop i l)) ≡ max (max (getD l i 0) b) (highest (drop (i + 1) l))
+  highest-step b = rw (drop-step l i 0 h) (omega arith)
+
+  pub above-step : (x b : ℕ) → b ≤ 4294967295
+      → min b (lowestAbove x (drop i l)) ≡ min (min (cond (ltb x (getD l i 0)) (getD l i 0) 4294967295) b) (lowestAbove x (drop (i + 1) l))
+  above-step x b q = rw (filter-step (ltb x) l i 0 h) (go (ltb x (getD l i 0)) (getD l i 0) (filter (ltb x) (drop (i + 1) l)))
+    where
+      go : (t : Bool) (k : ℕ) (m : List ℕ) → min b (lowest (consIf t k m)) ≡ min (min (cond t k 4294967295) b) (lowest m)
+      go true k m = omega arith
+      go false k m = omega arith
+
+-- ---- the end
+module _ (l : List ℕ) (i : ℕ) (h : length l ≤ i) where
+  pub count-end : (x n : ℕ) → n + atMost x (drop i l) ≡ n
+  count-end x n = rw (drop-of-length-le l h) (omega arith)
+
+  pub lowest-end : (b : ℕ) → b ≤ 4294967295 → min b (lowest (drop i l)) ≡ b
+  lowest-end b q = rw (drop-of-length-le l h) (omega arith)
+
+  pub highest-end : (b : ℕ) → max b (highest (drop i l)) ≡ b
+  highest-end b = rw (drop-of-length-le l h) (omega arith)
+
+  pub above-end : (x b : ℕ) → b ≤ 4294967295 → min b (lowestAbove x (drop i l)) ≡ b
+  above-end x b q = rw (filter-over (ltb x) l i h) (omega arith)

@@ -1,0 +1,50 @@
+-- `select::greatest` meets its contract. The loop's invariant: the largest of b and of the keys from i on is that of all. Assumes nothing.
+use mathlib.Core.Path.{_≡_, sym, ap, _∙_}
+use Prim.Native.Nat.{ℕ, _+_, _-_, _≤_, max}
+use native.Mathlib.Omega.{arith}
+use borrow.Author.Needs.{needs}
+use lib.ListN.{length, drop}
+use Rattle.select.specs.Order.{highest}
+use Rattle.select.proofs.Walks.{highest-step, highest-end}
+use Rattle.select.proofs.greatest.Statement.{statement}
+use Rattle.select.proofs.greatest.Tie as tie
+
+abbrev Inv-loop : tie.InvT-loop
+Inv-loop keys b₀ i₀ b i = (i ≤ length keys) × (max b (highest (drop i keys)) ≡ highest keys)
+
+abbrev μ-loop : tie.MeasureT-loop
+μ-loop keys b₀ i₀ b i = length keys - i
+
+loop-holds : tie.Need-loop-holds Inv-loop μ-loop
+loop-holds c = (omega arith, omega arith)
+
+mul-larger : tie.Need-mul-larger Inv-loop μ-loop
+mul-larger c = search needs
+
+shared-slice-read-larger : tie.Need-shared-slice-read-larger Inv-loop μ-loop
+shared-slice-read-larger c = search needs
+
+larger-requires : tie.Need-larger-requires Inv-loop μ-loop
+larger-requires c κs = search needs
+
+add-i : tie.Need-add-i Inv-loop μ-loop
+add-i c = omega arith
+
+loop-less : tie.Need-loop-less Inv-loop μ-loop
+loop-less c = omega arith
+
+loop-again : tie.Need-loop-again Inv-loop μ-loop
+loop-again c =
+    let l = c .before .before .before in
+    let keys = l .before .before .args .keys .now in
+    let v = l .loop in
+    (omega arith, ap (λ (m : ℕ). max m (highest (drop (v .i + 1) keys))) (c .larger .ensures) ∙ sym (highest-step keys (v .i) (c .before .before .loop-test .taken) (v .b)) ∙ v .inv .1)
+
+returns : tie.Need-returns Inv-loop μ-loop
+returns c =
+    let keys = c .before .before .before .args .keys .now in
+    let v = c .before .loop in
+    sym (highest-end keys (v .i) (c .loop-test .left) (v .b)) ∙ v .inv .1
+
+pub greatest-spec : {M : Type 1} → statement M
+greatest-spec = tie.close (tie.spec Inv-loop μ-loop loop-holds mul-larger shared-slice-read-larger larger-requires add-i loop-less loop-again returns)

@@ -1,0 +1,51 @@
+-- `select::least` meets its contract. The loop's invariant: the smallest of b and of the keys from i on is that of all. Assumes nothing.
+use mathlib.Core.Path.{_≡_, sym, ap, _∙_}
+use Prim.Native.Nat.{ℕ, _+_, _-_, _≤_, min}
+use native.Mathlib.Omega.{arith}
+use borrow.Author.Needs.{needs}
+use lib.ListN.{length, drop}
+use Rattle.select.specs.Order.{lowest}
+use Rattle.select.proofs.Ranks.{lowest-small}
+use Rattle.select.proofs.Walks.{lowest-step, lowest-end}
+use Rattle.select.proofs.least.Statement.{statement}
+use Rattle.select.proofs.least.Tie as tie
+
+abbrev Inv-loop : tie.InvT-loop
+Inv-loop keys b₀ i₀ b i = (i ≤ length keys) × (b ≤ 4294967295) × (min b (lowest (drop i keys)) ≡ lowest keys)
+
+abbrev μ-loop : tie.MeasureT-loop
+μ-loop keys b₀ i₀ b i = length keys - i
+
+loop-holds : tie.Need-loop-holds Inv-loop μ-loop
+loop-holds c = (omega arith, omega arith, omega (arith, lowest-small (c .before .args .keys .now)))
+
+mul-smaller : tie.Need-mul-smaller Inv-loop μ-loop
+mul-smaller c = search needs
+
+shared-slice-read-smaller : tie.Need-shared-slice-read-smaller Inv-loop μ-loop
+shared-slice-read-smaller c = search needs
+
+smaller-requires : tie.Need-smaller-requires Inv-loop μ-loop
+smaller-requires c κs = search needs
+
+add-i : tie.Need-add-i Inv-loop μ-loop
+add-i c = omega arith
+
+loop-less : tie.Need-loop-less Inv-loop μ-loop
+loop-less c = omega arith
+
+loop-again : tie.Need-loop-again Inv-loop μ-loop
+loop-again c =
+    let l = c .before .before .before in
+    let keys = l .before .before .args .keys .now in
+    let v = l .loop in
+    (omega arith, omega arith, ap (λ (m : ℕ). min m (lowest (drop (v .i + 1) keys))) (c .smaller .ensures) ∙ sym (lowest-step keys (v .i) (c .before .before .loop-test .taken) (v .b)) ∙ v .inv .2)
+
+returns : tie.Need-returns Inv-loop μ-loop
+returns c =
+    let keys = c .before .before .before .args .keys .now in
+    let v = c .before .loop in
+    sym (lowest-end keys (v .i) (c .loop-test .left) (v .b) (omega arith)) ∙ v .inv .2
+
+pub least-spec : {M : Type 1} → statement M
+least-spec = tie.close (tie.spec Inv-loop μ-loop loop-holds mul-smaller shared-slice-read-smaller smaller-requires add-i loop-less loop-again returns)

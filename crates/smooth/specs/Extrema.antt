@@ -1,0 +1,120 @@
+-- Local extrema of a track, the extremum of a part of it, and valleys. Definitions only.
+use Prim.Native.Nat.{ℕ, zero, suc, _+_, _-_, _/_}
+use mathlib.Core.Bool.{Bool, true, false, not, _&&_, _||_, cond}
+use mathlib.Core.List.{List, foldl}
+use lib.ListN.{length, getD}
+use lib.Seq.{slice}
+use lib.Dec.{leb, ltb, eqb}
+use lib.Ieee.{Float, nan, inf, binary32, lt, eq, sub}
+use Rattle.lists.specs.Results.{keep}
+use Rattle.smooth.specs.declared.extrema.Extremum.{Extremum}
+use Rattle.smooth.specs.declared.extrema.Extremum.the-variants.{Max, Min}
+
+-- the value of a frame
+abbrev pub at : List Float → ℕ → Float
+at s i = getD s i nan
+
+-- x is above y for a maximum, and below it for a minimum
+abbrev pub beyond : Extremum → Float → Float → Bool
+beyond Max x y = lt y x
+beyond Min x y = lt x y
+
+-- ---- flat stretches: neighbouring frames of one value
+-- the first frame of the flat stretch that frame i is in
+unfoldable pub flatFirst : List Float → ℕ → ℕ
+flatFirst s zero = zero
+flatFirst s (suc i) = cond (eq (at s (suc i)) (at s i)) (flatFirst s i) (suc i)
+
+-- the last frame of the flat stretch that frame i is in, at most k frames on
+unfoldable pub flatLast : List Float → ℕ → ℕ → ℕ
+flatLast s i zero = i
+flatLast s i (suc k) = cond (eq (at s (i + 1)) (at s i)) (flatLast s (i + 1) k) i
+
+-- its middle, rounded down
+abbrev pub middle : ℕ → ℕ → ℕ
+middle first last = (first + last) / 2
+
+-- ---- local extrema
+-- no frame stands before frame i, or frame i is beyond it
+abbrev pub leftClear : Extremum → List Float → ℕ → Bool
+leftClear kind s i = eqb i 0 || beyond kind (at s i) (at s (i - 1))
+
+-- no frame stands after frame j, or frame j is beyond it
+abbrev pub rightClear : Extremum → List Float → ℕ → Bool
+rightClear kind s j = leb (length s) (j + 1) || beyond kind (at s j) (at s (j + 1))
+
+-- frame i is the middle of the flat stretch first .. last, and this is beyond what surrounds it
+abbrev pub peaksAt : Extremum → List Float → ℕ → ℕ → ℕ → Bool
+peaksAt kind s first last i = eqb (middle first last) i && (leftClear kind s first && rightClear kind s last)
+
+-- frame i is a local extremum: so for the whole flat stretch that it is in
+unfoldable pub isExtremum : Extremum → List Float → ℕ → Bool
+isExtremum kind s i = peaksAt kind s (flatFirst s i) (flatLast s i (length s - 1 - i)) i
+
+-- frame i is in lo .. hi
+abbrev pub inside : ℕ → ℕ → ℕ → Bool
+inside lo hi i = leb lo i && ltb i hi
+
+-- the local extrema in lo .. hi, in order
+unfoldable pub localExtrema : List Float → ℕ → ℕ → Extremum → List ℕ
+localExtrema s lo hi kind = keep (λ i. isExtremum kind s i && inside lo hi i) 0 (length s)
+
+-- the flat stretch first .. last is beyond what surrounds it, and its middle is in lo .. hi
+abbrev pub offered : Extremum → List Float → ℕ → ℕ → ℕ → ℕ → Bool
+offered kind s lo hi first last = (leftClear kind s first && rightClear kind s last) && inside lo hi (middle first last)
+
+-- ---- the extremum of the frames from a to b
+-- some of the k frames from i on passes
+unfoldable pub someFrame : (ℕ → Bool) → ℕ → ℕ → Bool
+someFrame t i zero = false
+someFrame t i (suc k) = t i || someFrame t (i + 1) k
+
+-- the first frame from i on that passes, at most k frames on
+unfoldable pub firstFrame : (ℕ → Bool) → ℕ → ℕ → ℕ
+firstFrame t i zero = i
+firstFrame t i (suc k) = cond (t i) i (firstFrame t (i + 1) k)
+
+-- no frame from a to b is beyond frame i
+abbrev pub unbeaten : Extremum → List Float → ℕ → ℕ → ℕ → Bool
+unbeaten kind s a b i = not (someFrame (λ k. beyond kind (at s k) (at s i)) a (b + 1 - a))
+
+-- the first frame from a to b that none of them is beyond
+unfoldable pub firstBest : Extremum → List Float → ℕ → ℕ → ℕ
+firstBest kind s a b = firstFrame (unbeaten kind s a b) a (b - a)
+
+-- the middle of the flat stretch from there on, cut at b
+unfoldable pub extremumMiddle : Extremum → List Float → ℕ → ℕ → ℕ
+extremumMiddle kind s a b = middle (firstBest kind s a b) (flatLast s (firstBest kind s a b) (b - firstBest kind s a b))
+
+-- the frame of the lowest value
+abbrev pub argminMiddle : List Float → ℕ → ℕ → ℕ
+argminMiddle = extremumMiddle Min
+
+-- the frame of the highest value
+abbrev pub argmaxMiddle : List Float → ℕ → ℕ → ℕ
+argmaxMiddle = extremumMiddle Max
+
+-- ---- valleys
+-- the further out of two values, the first where they are equal
+abbrev pub further : Extremum → Float → Float → Float
+further kind m x = cond (beyond kind x m) x m
+
+-- the infinity that every other number is beyond
+abbrev pub unreached : Extremum → Float
+unreached Max = inf true
+unreached Min = inf false
+
+-- the value that lies furthest out; a NaN is passed over
+unfoldable pub furthest : Extremum → List Float → Float
+furthest kind xs = foldl (further kind) (unreached kind) xs
+
+-- the lower of two values, and the lowest of a list
+abbrev pub lower : Float → Float → Float
+lower = further Min
+
+abbrev pub lowest : List Float → Float
+lowest = furthest Min
+
+-- the valley between frames a and b is too shallow to part two peaks: its lowest frame is above the lower of the two, less the dip
+unfoldable pub shallow : List Float → ℕ → ℕ → Float → Bool
+shallow s a b dip = lt (sub binary32 (lower (at s a) (at s b)) dip) (lowest (slice a (b + 1) s))
