@@ -43,6 +43,25 @@ pub fn long(s: &[u8], k: usize) -> u64 {
     0
 }
 
+// The number of 16 bits with a sign that has the bits of w.
+fn signed(w: u32) -> i16 {
+    let low = w % 0x1_0000;
+    if low < 0x8000 {
+        return low as i16;
+    }
+    !((0xffff - low) as i16)
+}
+
+// The number of two bytes, with a sign, that begins at `at`.
+pub fn half_at(s: &[u8], at: usize) -> i16 {
+    if at < s.len() {
+        if 2 <= s.len() - at {
+            return signed(wide(s[at]) * 256 + wide(s[at + 1]));
+        }
+    }
+    0
+}
+
 pub fn put_byte(out: &mut [u8], at: usize, b: u8) {
     if at < out.len() {
         out[at] = b;
@@ -71,4 +90,11 @@ pub fn put_long(out: &mut [u8], k: usize, w: u64) {
         put_word_at(out, 8 * k, (w / 0x1_0000_0000) as u32);
         put_word_at(out, 8 * k + 4, (w % 0x1_0000_0000) as u32);
     }
+}
+
+pub fn put_long_at(out: &mut [u8], at: usize, w: u64)
+    requires { ⌜ at < 65536 ⌝ }
+{
+    put_word_at(out, at, (w / 0x1_0000_0000) as u32);
+    put_word_at(out, at + 4, (w % 0x1_0000_0000) as u32);
 }

@@ -3,8 +3,10 @@
 use region::Region;
 use region::Settings;
 use smooth::extrema::Extremum;
+ghost use mathlib.Core.Path.{_≡_};
 ghost use Prim.Native.Nat.{_≤_};
 ghost use lib.ListN.{length};
+ghost use Rattle.repair.specs.Repair.{Pitches};
 
 // The answer to an input of a kind, at the front of out; returns its length.
 #[no_mangle]
@@ -52,4 +54,39 @@ pub extern "C" fn kiddwyr_runs(pitch: &[f32], a: &mut [u32], b: &mut [u32]) -> u
     runs::voiced::long_runs(pitch, a, b);
     runs::syllables::syllable_runs(pitch, a, b);
     runs::syllables::dropouts(pitch, a, b)
+}
+
+// Octave repair.
+#[no_mangle]
+pub extern "C" fn kiddwyr_repair(pitch: &mut [f32])
+    requires { ⌜ (length (now pitch) ≤ 2048) × Pitches 40 2000 (now pitch) ⌝ }
+{
+    repair::repair_octaves(pitch);
+}
+
+// Recovered pitch.
+#[no_mangle]
+pub extern "C" fn kiddwyr_recover(pitch: &mut [f32], samples: &[i16], speech: &[u8], vowel: &[u8])
+    requires { ⌜ length (now pitch) ≤ 2048 ⌝ }
+{
+    recover::recover_pitch(pitch, samples, speech, vowel);
+}
+
+// Nuclei of a region: how many; their frames and strengths.
+#[no_mangle]
+pub extern "C" fn kiddwyr_nuclei(
+    db: &[f32],
+    pitch: &[f32],
+    start: usize,
+    end: usize,
+    margin: f32,
+    dip: f32,
+    gap: u32,
+    frames: &mut [u32],
+    strengths: &mut [f32],
+) -> usize
+    requires { ⌜ (length (now db) ≤ 2048) × (length (now pitch) ≡ length (now db)) × (end ≤ length (now db)) × (length (now db) ≤ length (now frames)) × (length (now db) ≤ length (now strengths)) ⌝ }
+{
+    let p = Settings { margin, dip, gap };
+    nuclei::nuclei(db, pitch, start, end, p, frames, strengths)
 }

@@ -1,0 +1,9 @@
+pub mod Around
+pub mod Merge
+pub mod Steps
+pub mod Choice
+pub mod Whole
+pub mod Pitched
+pub mod Promises
+pub mod K1
+pub mod Turns

@@ -1,0 +1,5 @@
+pub mod Merging
+pub mod Peaks
+pub mod Tops
+pub mod InTurn
+pub mod Nuclei

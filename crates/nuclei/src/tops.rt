@@ -1,0 +1,141 @@
+// The tops of voiced runs that hold no peak.
+use super::peaks::Bounds;
+use super::peaks::is_speech;
+use super::peaks::near_end;
+use super::peaks::near_start;
+use lists::marks::marks;
+use runs::near::Found;
+use runs::near::run_of;
+use smooth::extrema::argmax_middle;
+ghost use mathlib.Core.Path.{_≡_};
+ghost use mathlib.Core.Bool.{true};
+ghost use mathlib.Core.List.{_++_};
+ghost use Prim.Native.Nat.{_+_, _-_, _≤_, _<_, min, max};
+ghost use lib.ListN.{length, take};
+ghost use Rattle.lists.specs.Results.{Listed, Pushed};
+ghost use Rattle.runs.specs.Runs.{spans};
+ghost use Rattle.runs.specs.Near.{runOf};
+ghost use Rattle.nuclei.specs.Tops.{found, numberOf, runsHeld, unheldFrom, topOf, onFlank, standsAlone, hasTop, topsOf};
+
+// Writes the number of the run that a frame belongs to at the count n, if it belongs to one, and returns the new count.
+fn push_run(first: &[u32], last: &[u32], at: u32, out: &mut [u32], n: usize) -> usize
+    requires { ⌜ (length (now first) ≡ length (now last)) × (length (now first) ≤ 2048) × (found (runOf (spans (now first) (now last)) at) ≡ true → n < length (now out)) ⌝ }
+    ensures { λ r. ⌜ Pushed (found (runOf (spans (now (first .entry)) (now (last .entry))) at)) (numberOf (runOf (spans (now (first .entry)) (now (last .entry))) at)) n (now (out .entry)) (now (out .exit)) r ⌝ }
+{
+    let Found::At(k, _, _) = run_of(first, last, at) else {
+        return n;
+    };
+    out[n] = k;
+    n + 1
+}
+
+// Writes the numbers of the runs that frames belong to, a frame at a time, and returns how many they are.
+pub fn runs_held(first: &[u32], last: &[u32], frames: &[u32], out: &mut [u32]) -> usize
+    requires { ⌜ (length (now first) ≡ length (now last)) × (length (now first) ≤ 2048) × (length (now frames) ≤ length (now out)) ⌝ }
+    ensures { λ r. ⌜ Listed (runsHeld (spans (now (first .entry)) (now (last .entry))) (now (frames .entry))) (now (out .entry)) (now (out .exit)) r ⌝ }
+{
+    let mut n: usize = 0;
+    let mut i: usize = 0;
+    while i < frames.len() {
+        n = push_run(first, last, frames[i], out, n);
+        i += 1;
+    }
+    n
+}
+
+// Whether some frame within 2 of frame at is more than dip louder.
+fn on_flank(s: &[f32], dip: f32, at: u32) -> bool
+    requires { ⌜ at < length (now s) ⌝ }
+    ensures { λ r. ⌜ r ≡ onFlank (now (s .entry)) dip at ⌝ }
+{
+    let most = s[at as usize] + dip;
+    let end = near_end(at, s.len());
+    let mut i = near_start(at);
+    while i < end {
+        if most < s[i] {
+            return true;
+        }
+        i += 1;
+    }
+    false
+}
+
+// Whether the top of a run is a candidate.
+fn stands_alone(s: &[f32], b: Bounds, dip: f32, at: u32) -> bool
+    requires { ⌜ (at < length (now s)) × (b .end ≤ length (now s)) ⌝ }
+    ensures { λ r. ⌜ r ≡ standsAlone (now (s .entry)) b dip at ⌝ }
+{
+    if is_speech(s, b, at) {
+        !on_flank(s, dip, at)
+    } else {
+        false
+    }
+}
+
+// The larger of two numbers.
+fn larger(a: usize, b: usize) -> usize
+    ensures { λ r. ⌜ r ≡ max a b ⌝ }
+{
+    if a < b { b } else { a }
+}
+
+// The smaller of two numbers.
+fn smaller(a: usize, b: usize) -> usize
+    ensures { λ r. ⌜ r ≡ min a b ⌝ }
+{
+    if a < b { a } else { b }
+}
+
+// Writes the top of the run first..=last at the count n, if it has one, and returns the new count: the loudest frame of
+// its part of the region, the middle of a flat top. A run outside the region has none.
+fn push_top(
+    s: &[f32],
+    b: Bounds,
+    dip: f32,
+    first: u32,
+    last: u32,
+    out: &mut [u32],
+    n: usize,
+) -> usize
+    requires { ⌜ (length (now s) ≤ 2048) × (b .end ≤ length (now s)) × (hasTop (now s) b dip (record { first = first; last = last }) ≡ true → n < length (now out)) ⌝ }
+    ensures { λ r. ⌜ Pushed (hasTop (now (s .entry)) b dip (record { first = first; last = last })) (topOf (now (s .entry)) b (record { first = first; last = last })) n (now (out .entry)) (now (out .exit)) r ⌝ }
+{
+    let lo = larger(first as usize, b.start);
+    let hi = smaller(last as usize + 1, b.end);
+    if hi <= lo {
+        return n;
+    }
+    let top = argmax_middle(s, lo, hi - 1) as u32;
+    if stands_alone(s, b, dip, top) {
+        out[n] = top;
+        return n + 1;
+    }
+    n
+}
+
+// Writes the tops of the runs whose number is not among the held ones after the c entries of out, and returns how many
+// entries there are then.
+pub fn run_tops(
+    s: &[f32],
+    b: Bounds,
+    dip: f32,
+    first: &[u32],
+    last: &[u32],
+    held: &[u32],
+    out: &mut [u32],
+    c: usize,
+) -> usize
+    requires { ⌜ (length (now s) ≤ 2048) × (b .end ≤ length (now s)) × (length (now first) ≡ length (now last)) × (length (now first) ≤ 2048) × (c + length (now first) ≤ length (now out)) ⌝ }
+    ensures { λ r. ⌜ Listed (take c (now (out .entry)) ++ topsOf (now (s .entry)) b dip (unheldFrom (now (held .entry)) 0 (spans (now (first .entry)) (now (last .entry))))) (now (out .entry)) (now (out .exit)) r ⌝ }
+{
+    let h = marks(held);
+    let mut n = c;
+    let mut k: usize = 0;
+    while k < first.len() {
+        if h[k] != 1 {
+            n = push_top(s, b, dip, first[k], last[k], out, n);
+        }
+        k += 1;
+    }
+    n
+}

@@ -1,0 +1,103 @@
+-- What repair promises of a track whose pitches are from 40 to 2,000 Hz: as many frames (`length-repaired`, in Runs), the same voiced
+-- frames (`repaired-voiced`, `repaired-frames`), and pitches from 20 to 4,000 Hz (`repaired-pitches`). Assumes nothing.
+use Prim.Native.Nat.{ℕ, zero, suc, _+_, _-_, _*_, _≤_, _<_}
+use native.Mathlib.Nat.{mul-pos, zero-mul, mul-one}
+use native.Mathlib.Omega.{arith}
+use mathlib.Core.Path.{_≡_, refl, sym, ap, ap₂, _∙_, subst}
+use mathlib.Core.Bool.{Bool, true, false, not, cond, _&&_}
+use mathlib.Core.List.{List, [], _∷_, map}
+use mathlib.Core.Logic.{_⊎_, inl, inr, ⊎-elim}
+use lib.Dec.{T, eqb, ltb, ltb→lt}
+use lib.ListN.{length, getD, List·getD-eq-default}
+use lib.Ieee.{Float, nan, inf, fin, ofBits, ne, eq, up, down}
+use lib.Ieee.Fits.{up-pos}
+use lib.Ieee.Positive.{positive, between}
+use borrow.Author.Tests.{ltb-true, ltb-false, ne-eqb}
+use Rattle.lists.specs.Results.{keep, consIf}
+use Rattle.lists.specs.Marks.{member}
+use Rattle.lists.proofs.Entries.{each-at, at-each}
+use Rattle.lists.proofs.Members.{each-keep, each-member}
+use Rattle.powers.specs.Pitch.{hz, Between, octaveAt}
+use Rattle.powers.specs.declared.pitch.Octave.{Octave}
+use Rattle.powers.specs.declared.pitch.Octave.the-variants.{Keep, Halve, Double}
+use Rattle.powers.proofs.Repaired.{halved-admitted, doubled-admitted}
+use Rattle.runs.specs.Runs.{none, voiced, voicedFrames, Span, longRuns}
+use Rattle.repair.specs.Repair.{Pitches, pitchAt, framesIn, neighbours, lowerMiddle, upperMiddle, shifted, beside, repairedIn, repairedAmong, repaired}
+use Rattle.repair.proofs.Middles.{wider}
+use Rattle.repair.proofs.Runs.{pitched-at, length-repaired, repaired-at}
+
+-- a pitch is not 0
+positive-voiced : (x : Float) → T (positive x) → ne x none ≡ true
+unfolding ne eq ofBits
+positive-voiced nan p = absurd p
+positive-voiced (inf s) p = absurd p
+positive-voiced (fin true m e) p = absurd p
+positive-voiced (fin false m e) p =
+    let h : 0 < m * up e = mul-pos (ltb→lt 0 m p) (up-pos e) in
+    let q : eqb (m * up e * 1) (0 * down e) ≡ false = ne-eqb (m * up e * 1) (0 * down e) (λ j. omega (arith, j, h, zero-mul (down e), mul-one (m * up e))) in
+    ap (λ (b : Bool). not (b && true)) q
+
+shifted-pitch : (o : Octave) (f : Float) → Between 40 2000 f → Between 20 4000 (shifted o f)
+shifted-pitch Keep f h = wider f h
+shifted-pitch Halve f h = halved-admitted f h
+shifted-pitch Double f h = doubled-admitted f h
+
+keep-same : (s t : ℕ → Bool) → ((i : ℕ) → s i ≡ t i) → (i k : ℕ) → keep s i k ≡ keep t i k
+unfolding keep
+keep-same s t f i zero = refl
+keep-same s t f i (suc k) = ap₂ (λ (b : Bool) (l : List ℕ). consIf b i l) (f i) (keep-same s t f (suc i) k)
+
+module _ (pitch : List Float) (a : Pitches 40 2000 pitch) where
+  -- a frame keeps its pitch, or has one and gets one
+  abbrev Kept : Float → ℕ → Type 0
+  Kept v i = (v ≡ pitchAt pitch i) ⊎ ((voiced pitch i ≡ true) × Between 20 4000 v)
+
+  kept-among : (rs : List Span) (i : ℕ) → i < length pitch → Kept (repairedAmong pitch rs i) i
+  unfolding repairedAmong beside framesIn
+  kept-among [] i h = inl refl
+  kept-among (r ∷ rs) i h = go (member (framesIn pitch r) i) refl (kept-among rs i h)
+    where
+      near : List Float
+      near = map (pitchAt pitch) (neighbours (framesIn pitch r) i)
+
+      go : (b : Bool) → member (framesIn pitch r) i ≡ b → Kept (repairedAmong pitch rs i) i → Kept (cond b (repairedIn pitch (framesIn pitch r) i) (repairedAmong pitch rs i)) i
+      go true e k =
+          let v = each-member (λ j. (r .first ≤ j) × (j < r .first + (r .last + 1 - r .first)) × (voiced pitch j ≡ true)) (framesIn pitch r) i (each-keep (voiced pitch) (r .first) (r .last + 1 - r .first)) e .2 in
+          inr (v, shifted-pitch (octaveAt (pitchAt pitch i) (lowerMiddle near) (upperMiddle near)) (pitchAt pitch i) (pitched-at 40 2000 pitch a i h v))
+      go false e k = k
+
+  pub repaired-pitches : Pitches 20 4000 (repaired pitch)
+  repaired-pitches = at-each (λ p. (p ≡ none) ⊎ Between 20 4000 p) (repaired pitch) nan at
+    where
+      at : (i : ℕ) → i < length (repaired pitch) → (getD (repaired pitch) i nan ≡ none) ⊎ Between 20 4000 (getD (repaired pitch) i nan)
+      at i h =
+          let l : i < length pitch = omega (arith, length-repaired pitch) in
+          let e = repaired-at pitch i l in
+          ⊎-elim
+          (λ k. ⊎-elim (λ n. inl (e ∙ k ∙ n)) (λ b. inr (subst (Between 20 4000) (sym (e ∙ k)) (wider (pitchAt pitch i) b))) (each-at (λ p. (p ≡ none) ⊎ Between 40 2000 p) pitch nan a i l))
+          (λ k. inr (subst (Between 20 4000) (sym e) (k .1)))
+          (kept-among (longRuns pitch) i l)
+
+  -- a frame is voiced after if it was before; past the end there is none either way
+  pub repaired-voiced : (i : ℕ) → voiced (repaired pitch) i ≡ voiced pitch i
+  repaired-voiced i = go (ltb i (length pitch)) refl
+    where
+      go : (b : Bool) → ltb i (length pitch) ≡ b → voiced (repaired pitch) i ≡ voiced pitch i
+      go true q =
+          let l = ltb-true i (length pitch) q in
+          let e = repaired-at pitch i l in
+          ⊎-elim
+          (λ k. ap (λ (p : Float). ne p none) (e ∙ k))
+          (λ k. ap (λ (p : Float). ne p none) e ∙ positive-voiced (repairedAmong pitch (longRuns pitch) i) (between (hz 20) (repairedAmong pitch (longRuns pitch) i) (hz 4000) tt tt (k .1 .0) (k .1 .1)) ∙ sym (k .0))
+          (kept-among (longRuns pitch) i l)
+      go false q =
+          let l = ltb-false i (length pitch) q in
+          let m : length (repaired pitch) ≤ i = omega (arith, length-repaired pitch) in
+          ap (λ (p : Float). ne p none) (List·getD-eq-default (repaired pitch) nan m ∙ sym (List·getD-eq-default pitch nan l))
+
+  pub repaired-frames : voicedFrames (repaired pitch) ≡ voicedFrames pitch
+  unfolding voicedFrames
+  repaired-frames = ap (keep (voiced (repaired pitch)) 0) (length-repaired pitch) ∙ same 0 (length pitch)
+    where
+      same : (i k : ℕ) → keep (voiced (repaired pitch)) i k ≡ keep (voiced pitch) i k
+      same i k = keep-same (voiced (repaired pitch)) (voiced pitch) repaired-voiced i k

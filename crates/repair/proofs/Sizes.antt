@@ -1,0 +1,105 @@
+-- The size of a voiced run is how many voiced frames lie from its first to its last (`run-sizes`), so a long run has 5 or more (`long-run-frames`). Assumes nothing.
+use Prim.Native.Nat.{ℕ, zero, suc, _+_, _-_, _≤_}
+use native.Mathlib.Nat.{add-zero, zero-add, suc-add}
+use native.Mathlib.Omega.{arith}
+use mathlib.Core.Path.{_≡_, refl, sym, ap, ap₂, _∙_}
+use mathlib.Core.Bool.{Bool, true, false, cond}
+use mathlib.Core.List.{List, [], _∷_, _++_, map}
+use lib.ListN.{length}
+use lib.Ieee.{Float}
+use borrow.Author.Tests.{leb-true}
+use Rattle.lists.specs.Results.{consIf, filter, keep}
+use Rattle.lists.specs.By.{Each}
+use Rattle.lists.proofs.Entries.{each-filter, each-kept, each-of-map}
+use Rattle.runs.specs.declared.voiced.Run.{Run}
+use Rattle.runs.specs.Grouped.{attach, grouped}
+use Rattle.runs.specs.Runs.{span, voiced, voicedFrames, sole, close, joined, voicedRuns, long, longRuns}
+use Rattle.repair.specs.Repair.{framesIn}
+
+each-both : {A : Type 0} (P Q R : A → Type 0) → ((x : A) → P x → Q x → R x) → (l : List A) → Each P l → Each Q l → Each R l
+each-both P Q R f [] p q = tt
+each-both P Q R f (x ∷ l) p q = (f x (p .0) (q .0), each-both P Q R f l (p .1) (q .1))
+
+module _ (t : ℕ → Bool) where
+  -- the frames of a range fall into those before a frame of it and those from there on
+  keep-split : (i a b : ℕ) → keep t i (a + b) ≡ keep t i a ++ keep t (i + a) b
+  unfolding keep
+  keep-split i zero b = ap₂ (keep t) (sym (add-zero i)) (zero-add b)
+  keep-split i (suc a) b =
+      let e : suc i + a ≡ i + suc a = omega arith in
+      ap (keep t i) (suc-add a b) ∙ ap (consIf (t i) i) (keep-split (suc i) a b ∙ ap (λ (j : ℕ). keep t (suc i) a ++ keep t j b) e) ∙ consIf-append (t i) i (keep t (suc i) a) (keep t (i + suc a) b)
+    where
+      consIf-append : (b : Bool) (x : ℕ) (l r : List ℕ) → consIf b x (l ++ r) ≡ consIf b x l ++ r
+      consIf-append true x l r = refl
+      consIf-append false x l r = refl
+
+  keep-first : (i k : ℕ) → t i ≡ true → keep t i (suc k) ≡ i ∷ keep t (suc i) k
+  unfolding keep
+  keep-first i k e = rw e
+
+  -- ---- the runs that the frames from i on make
+  abbrev Sized : Run → Type 0
+  Sized r = length (keep t (r .first) (r .last + 1 - r .first)) ≡ r .size
+
+  -- the first of them begins with the first frame that passes
+  abbrev Begins : ℕ → List Run → Type 0
+  Begins i [] = Unit
+  Begins i (r ∷ rs) = (i ≤ r .first) × (r .first ≤ r .last) × (keep t i (r .first - i) ≡ [])
+
+  begins-on : (i : ℕ) (rs : List Run) → t i ≡ false → Begins (suc i) rs → Begins i rs
+  unfolding keep
+  begins-on i [] e h = tt
+  begins-on i (r ∷ rs) e h =
+      let n : r .first - i ≡ suc (r .first - suc i) = omega (arith, h .0) in
+      (omega (arith, h .0), h .1, ap (keep t i) n ∙ rw e (h .2))
+
+  sole-sized : (i : ℕ) → t i ≡ true → Sized (sole i)
+  unfolding keep
+  sole-sized i e =
+      let n : i + 1 - i ≡ 1 = omega arith in
+      ap (λ (k : ℕ). length (keep t i k)) n ∙ rw e
+
+  joined-sized : (i : ℕ) (r : Run) (rs : List Run) → t i ≡ true → Begins (suc i) (r ∷ rs) → Sized r → Sized (joined (sole i) r)
+  joined-sized i r rs e h s =
+      let m : r .last + 1 - i ≡ suc (r .first - suc i + (r .last + 1 - r .first)) = omega (arith, h .0, h .1) in
+      let n : suc i + (r .first - suc i) ≡ r .first = omega (arith, h .0) in
+      ap (λ (k : ℕ). length (keep t i k)) m
+      ∙ ap length (keep-first i (r .first - suc i + (r .last + 1 - r .first)) e)
+      ∙ ap (λ (l : List ℕ). suc (length l)) (keep-split (suc i) (r .first - suc i) (r .last + 1 - r .first) ∙ ap₂ (λ (l : List ℕ) (j : ℕ). l ++ keep t j (r .last + 1 - r .first)) (h .2) n)
+      ∙ omega (arith, s)
+
+  sizes-from : (i k : ℕ) → Each Sized (grouped close joined (map sole (keep t i k))) × Begins i (grouped close joined (map sole (keep t i k)))
+  unfolding keep grouped attach
+  sizes-from i zero = (tt, tt)
+  sizes-from i (suc k) = go (t i) refl (sizes-from (suc i) k)
+    where
+      runs : List Run
+      runs = grouped close joined (map sole (keep t (suc i) k))
+
+      begun : keep t i (i - i) ≡ []
+      begun = let n : i - i ≡ 0 = omega arith in ap (keep t i) n
+
+      put : t i ≡ true → (rs : List Run) → Each Sized rs → Begins (suc i) rs → Each Sized (attach close joined (sole i) rs) × Begins i (attach close joined (sole i) rs)
+      put e [] s h = ((sole-sized i e, tt), (omega arith, omega arith, begun))
+      put e (r ∷ rs) s h = pick (close (sole i) r)
+        where
+          pick : (b : Bool) → Each Sized (cond b (joined (sole i) r ∷ rs) (sole i ∷ r ∷ rs)) × Begins i (cond b (joined (sole i) r ∷ rs) (sole i ∷ r ∷ rs))
+          pick true = ((joined-sized i r rs e h (s .0), s .1), (omega arith, omega (arith, h .0, h .1), begun))
+          pick false = ((sole-sized i e, s), (omega arith, omega arith, begun))
+
+      go : (b : Bool) → t i ≡ b → Each Sized runs × Begins (suc i) runs
+          → Each Sized (grouped close joined (map sole (consIf b i (keep t (suc i) k)))) × Begins i (grouped close joined (map sole (consIf b i (keep t (suc i) k))))
+      go true e h = put e runs (h .0) (h .1)
+      go false e h = (h .0, begins-on i runs e (h .1))
+
+module _ (pitch : List Float) where
+  pub run-sizes : Each (λ r. length (framesIn pitch (span r)) ≡ r .size) (voicedRuns pitch)
+  unfolding framesIn voicedRuns voicedFrames
+  run-sizes = sizes-from (voiced pitch) 0 (length pitch) .0
+
+  pub long-run-frames : Each (λ r. 5 ≤ length (framesIn pitch r)) (longRuns pitch)
+  unfolding longRuns
+  long-run-frames =
+      each-of-map (λ r. 5 ≤ length (framesIn pitch r)) span (filter long (voicedRuns pitch))
+      (each-both (λ r. length (framesIn pitch (span r)) ≡ r .size) (λ r. long r ≡ true) (λ r. 5 ≤ length (framesIn pitch (span r))) (λ r e l. omega (arith, e, leb-true 5 (r .size) l))
+      (filter long (voicedRuns pitch)) (each-kept (λ r. length (framesIn pitch (span r)) ≡ r .size) long (voicedRuns pitch) run-sizes) (each-filter long (voicedRuns pitch)))

@@ -1,0 +1,3 @@
+pub mod Repair
+pub mod Places
+pub mod Known
