@@ -209,6 +209,20 @@ pub fn repair(pitch: &mut [f32]) -> Answer<()> {
 
 /// Pitches given to periodic stretches without one, in place.
 pub fn recover(pitch: &mut [f32], samples: &[i16], speech: &[u8], vowel: &[u8]) -> Answer<()> {
+    recover_by(recovered, pitch, samples, speech, vowel)
+}
+
+/// A recovery without refusals: pitches, samples, speech marks, vowel marks.
+pub type Recovery = fn(&mut [f32], &[i16], &[u8], &[u8]);
+
+/// [`recover`], the work done by the given function.
+pub fn recover_by(
+    work: Recovery,
+    pitch: &mut [f32],
+    samples: &[i16],
+    speech: &[u8],
+    vowel: &[u8],
+) -> Answer<()> {
     admitted(&Given {
         pitch: Some((pitch, PITCH)),
         speech: Some(speech),
@@ -216,7 +230,7 @@ pub fn recover(pitch: &mut [f32], samples: &[i16], speech: &[u8], vowel: &[u8]) 
         samples: Some(samples.len()),
         ..Given::default()
     })?;
-    recovered(pitch, samples, speech, vowel);
+    work(pitch, samples, speech, vowel);
     Ok(())
 }
 
@@ -451,7 +465,7 @@ fn repaired(pitch: &mut [f32]) {
     write_back(&track, pitch);
 }
 
-fn recovered(pitch: &mut [f32], samples: &[i16], speech: &[u8], vowel: &[u8]) {
+pub fn recovered(pitch: &mut [f32], samples: &[i16], speech: &[u8], vowel: &[u8]) {
     let masks = |marks: &[u8]| marks.iter().map(|&m| m == 1).collect::<Vec<bool>>();
     let mut track = f0(pitch, &[]);
     tonekit_f0::recover_pitch(&mut track, &pcm(samples), &masks(speech), &masks(vowel));

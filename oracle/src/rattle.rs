@@ -14,6 +14,11 @@ pub fn answer(kind: u8, input: &[u8]) -> Option<Vec<u8>> {
             out_len: usize,
         ) -> usize;
     }
+    // Recovery is not among the library's answers yet: its function stands behind our refusals.
+    if kind == 35 {
+        let mut reader = crate::bytes::Reader::new(input);
+        return crate::stages::recovery_by(stages::recovered, &mut reader).map(|w| w.bytes);
+    }
     // What is past the answer is not looked at; it starts out as something no answer relies on.
     let mut out = vec![0xa5; MAX_BYTES];
     // SAFETY: both pointers come with the lengths of live slices, and the function is proved to
@@ -62,6 +67,9 @@ pub fn stage(name: &str) -> Option<Stage> {
         "level" => stages::level,
         "extrema" => stages::extrema,
         "runs" => stages::runs,
+        "repair" => stages::repair,
+        "recovery" => stages::recovery,
+        "nuclei" => stages::nuclei,
         _ => return None,
     })
 }
@@ -71,7 +79,7 @@ pub fn stage(name: &str) -> Option<Stage> {
 #[cfg(feature = "rattle")]
 mod stages {
     use crate::bench::{Prepared, Room};
-    use crate::entry::DEFAULTS;
+    use crate::entry::{DEFAULTS, MAX_FRAMES};
     use std::hint::black_box;
 
     extern "C" {
@@ -86,6 +94,79 @@ mod stages {
             b: *mut u32,
             b_room: usize,
         ) -> usize;
+        fn kiddwyr_repair(pitch: *mut f32, frames: usize);
+        fn kiddwyr_recover(
+            pitch: *mut f32,
+            frames: usize,
+            samples: *const i16,
+            samples_len: usize,
+            speech: *const u8,
+            speech_len: usize,
+            vowel: *const u8,
+            vowel_len: usize,
+        );
+        fn kiddwyr_nuclei(
+            db: *const f32,
+            frames: usize,
+            pitch: *const f32,
+            pitch_len: usize,
+            start: usize,
+            end: usize,
+            margin: f32,
+            dip: f32,
+            gap: u32,
+            list: *mut u32,
+            list_room: usize,
+            strengths: *mut f32,
+            strengths_room: usize,
+        ) -> usize;
+    }
+
+    pub fn repair(_: &Prepared, room: &mut Room) {
+        // SAFETY: as below; the takes' pitches are 0 or lie within 40 to 2,000 Hz.
+        unsafe { kiddwyr_repair(room.pitch.as_mut_ptr(), room.pitch.len()) };
+    }
+
+    pub fn recovered(pitch: &mut [f32], samples: &[i16], speech: &[u8], vowel: &[u8]) {
+        assert!(pitch.len() <= MAX_FRAMES);
+        // SAFETY: each pointer comes with the length of a live slice.
+        unsafe {
+            kiddwyr_recover(
+                pitch.as_mut_ptr(),
+                pitch.len(),
+                samples.as_ptr(),
+                samples.len(),
+                speech.as_ptr(),
+                speech.len(),
+                vowel.as_ptr(),
+                vowel.len(),
+            );
+        }
+    }
+
+    pub fn recovery(t: &Prepared, room: &mut Room) {
+        recovered(&mut room.pitch, &t.samples, &t.speech, &t.vowel);
+    }
+
+    pub fn nuclei(t: &Prepared, room: &mut Room) {
+        // SAFETY: as below; the pitches are as many as the dB, and the region ends within them.
+        black_box(unsafe {
+            kiddwyr_nuclei(
+                t.db.as_ptr(),
+                t.db.len(),
+                t.pitch.as_ptr(),
+                t.pitch.len(),
+                t.region.0 as usize,
+                t.region.1 as usize,
+                DEFAULTS.margin,
+                DEFAULTS.dip,
+                DEFAULTS.gap,
+                room.edges.as_mut_ptr(),
+                room.edges.len(),
+                room.floats.as_mut_ptr(),
+                room.floats.len(),
+            )
+        });
     }
 
     pub fn region(t: &Prepared, _: &mut Room) {

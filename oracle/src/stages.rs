@@ -108,11 +108,16 @@ fn window(r: &mut Reader) -> Option<Vec<i16>> {
 }
 
 pub fn recovery(r: &mut Reader) -> Option<Writer> {
+    recovery_by(entry::recovered, r)
+}
+
+/// The answer of another function behind the same refusals.
+pub fn recovery_by(work: entry::Recovery, r: &mut Reader) -> Option<Writer> {
     let [pitches, speech, vowel, samples, stored] = counts(r)?;
     let mut pitch = r.many(pitches, Reader::f32)?;
     let (speech, vowel) = (r.bytes(speech)?, r.bytes(vowel)?);
     let samples = repeated(&r.many(stored, i16)?, samples)?;
-    let (refusal, ()) = outcome(entry::recover(&mut pitch, &samples, speech, vowel));
+    let (refusal, ()) = outcome(entry::recover_by(work, &mut pitch, &samples, speech, vowel));
     Some(Writer::new().u8(refusal).each(pitch, Writer::answer))
 }
 
