@@ -624,6 +624,10 @@ pub fn fixed(kind: u8) -> Vec<Vec<u8>> {
                 margin(-0.0, &below_zero),
                 margin(40.0, &k2.db),
                 margin(40.0f32.next_down(), &k2.db),
+                margin(10.0, &cases::k1().db),
+                // 4 speech frames and 5.
+                margin(10.0, &loud_frames(4)),
+                margin(10.0, &loud_frames(5)),
             ]
         }
         26..=29 => vec![
@@ -637,10 +641,27 @@ pub fn fixed(kind: u8) -> Vec<Vec<u8>> {
             let tie = Writer::new().size(4).each([0, 2, 6, 9], Writer::size);
             vec![Writer::new().size(3).bytes, tie.bytes]
         }
+        32 => vec![
+            vec![],
+            floats(&[118.0, 118.0, 200.0, 118.0, 118.0]),
+            floats(&[119.0, 119.0, 200.0, 119.0, 119.0]),
+            floats(&[110.0, 110.0, 200.0, 128.0, 128.0]),
+            floats(&[110.0, 110.0, 200.0, 130.0, 130.0]),
+            floats(&[44.0, 44.0, 44.0, 76.0, 44.0, 44.0, 44.0]),
+            floats(&[-0.0]),
+            floats(&[39.0]),
+        ],
         56 => [cases::k1(), k2, k3, cases::split_outside()]
             .iter()
             .map(|take| take.write())
             .collect(),
         _ => vec![],
     }
+}
+
+/// A quiet track with some loud frames.
+fn loud_frames(count: usize) -> Vec<f32> {
+    let mut db = vec![-60.0; 16];
+    db[4..4 + count].fill(-20.0);
+    db
 }
