@@ -4,8 +4,9 @@ use region::Region;
 use region::Settings;
 use smooth::extrema::Extremum;
 ghost use mathlib.Core.Path.{_≡_};
-ghost use Prim.Native.Nat.{_≤_};
+ghost use Prim.Native.Nat.{_+_, _≤_};
 ghost use lib.ListN.{length};
+ghost use Rattle.lists.specs.Sorted.{StrictlyRises};
 ghost use Rattle.repair.specs.Repair.{Pitches};
 
 // The answer to an input of a kind, at the front of out; returns its length.
@@ -89,4 +90,26 @@ pub extern "C" fn kiddwyr_nuclei(
 {
     let p = Settings { margin, dip, gap };
     nuclei::nuclei(db, pitch, start, end, p, frames, strengths)
+}
+
+// Boundaries of a region around given nuclei: how many; their frames.
+#[no_mangle]
+pub extern "C" fn kiddwyr_boundaries(
+    db: &[f32],
+    pitch: &[f32],
+    voiced: &[f32],
+    start: usize,
+    end: usize,
+    nuclei: &[u32],
+    margin: f32,
+    dip: f32,
+    gap: u32,
+    out: &mut [u32],
+) -> usize
+    requires { ⌜ (start ≤ end) × (end ≤ length (now db)) × (length (now db) ≤ 2048) × (length (now pitch) ≡ length (now db)) × (length (now voiced) ≡ length (now db)) ⌝ }
+    requires { ⌜ StrictlyRises 0 (length (now db)) (now nuclei) ⌝ }
+    requires { ⌜ length (now db) + 1 ≤ length (now out) ⌝ }
+{
+    let p = Settings { margin, dip, gap };
+    boundaries::boundaries_with(db, pitch, voiced, start, end, nuclei, p, out)
 }

@@ -1,0 +1,9 @@
+pub mod Adding
+pub mod Spreading
+pub mod Cells
+pub mod Turns
+pub mod Jointly
+pub mod Hills
+pub mod Whole
+pub mod Promise
+pub mod Known

@@ -1,0 +1,48 @@
+-- `boundaries::boundaries_with` meets its contract. Assumes nothing.
+use borrow.Author.Needs.{needs}
+use mathlib.Core.Path.{sym}
+use Rattle.lists.proofs.Fill.{listed-count}
+use Rattle.boundaries.proofs.Whole.{level-listed, with-is}
+use Rattle.boundaries.proofs.boundaries_with.Statement.{statement}
+use Rattle.boundaries.proofs.boundaries_with.Tie as tie
+
+slice-aggregate-smoothed-db : tie.Need-slice-aggregate-smoothed-db
+slice-aggregate-smoothed-db c = search needs
+
+smoothed-db-requires : tie.Need-smoothed-db-requires
+smoothed-db-requires c κs = search needs
+
+speech-threshold-requires : tie.Need-speech-threshold-requires
+speech-threshold-requires c κs = search needs
+
+array-share-prefix-level : tie.Need-array-share-prefix-level
+array-share-prefix-level c = search needs
+
+slice-aggregate-boundaries-over : tie.Need-slice-aggregate-boundaries-over
+slice-aggregate-boundaries-over c = listed-count (level-listed (c .before .before .before .before .before .before .before .before .before .before .args .db .now) (c .before .before .before .smoothed-db .ensures))
+
+boundaries-over-requires : tie.Need-boundaries-over-requires
+boundaries-over-requires c κs =
+    let pre = c .before .before .before .before .before .before .before .before .before .before .before .pre in
+    ((pre .0 .0, pre .0 .1, pre .0 .2, sym (listed-count (level-listed (c .before .before .before .before .before .before .before .before .before .before .before .args .db .now) (c .before .before .before .before .smoothed-db .ensures))), pre .0 .3, pre .0 .4), (pre .1 .0, pre .1 .1))
+
+same-length : tie.Need-same-length
+same-length c = search needs
+
+returns : tie.Need-returns
+returns c =
+    let args = c .before .before .before .before .before .before .before .before .before .before .before .before .before .before .args in
+    with-is (args .db .now) (args .pitch .now) (args .voiced .now) (args .start) (args .end) (args .nuclei .now) (args .p) (level-listed (args .db .now) (c .before .before .before .before .before .before .before .smoothed-db .ensures)) (c .before .before .before .before .before .speech-threshold .ensures) (c .before .before .boundaries-over .ensures)
+
+pub boundaries-with-spec : {M : Type 1} → statement M
+boundaries-with-spec =
+    tie.close
+    (tie.spec
+    slice-aggregate-smoothed-db
+    smoothed-db-requires
+    speech-threshold-requires
+    array-share-prefix-level
+    slice-aggregate-boundaries-over
+    boundaries-over-requires
+    same-length
+    returns)

@@ -1,0 +1,54 @@
+-- `boundaries::edges::add_pauses` meets its contract. Assumes nothing.
+use native.Mathlib.Omega.{arith}
+use borrow.Author.Needs.{needs}
+use Rattle.lists.proofs.Fill.{listed-fits, listed-count}
+use Rattle.boundaries.proofs.Turns.{turn-fits, turn-added, pauses-keyed}
+use Rattle.boundaries.proofs.edges.add_pauses.Statement.{statement}
+use Rattle.boundaries.proofs.edges.add_pauses.Tie as tie
+
+blank-requires : tie.Need-blank-requires
+blank-requires c κs = search needs
+
+slice-aggregate-pause-keys : tie.Need-slice-aggregate-pause-keys
+slice-aggregate-pause-keys c = search needs
+
+pause-keys-requires : tie.Need-pause-keys-requires
+pause-keys-requires c κs = search needs
+
+blank-requires-2 : tie.Need-blank-requires-2
+blank-requires-2 c κs = search needs
+
+array-borrow-prefix-keys : tie.Need-array-borrow-prefix-keys
+array-borrow-prefix-keys c = listed-fits (c .before .before .pause-keys .ensures)
+
+slice-aggregate-add-sorted : tie.Need-slice-aggregate-add-sorted
+slice-aggregate-add-sorted c = listed-count (c .before .before .before .pause-keys .ensures)
+
+slice-aggregate-add-sorted-2 : tie.Need-slice-aggregate-add-sorted-2
+slice-aggregate-add-sorted-2 c = search needs
+
+add-sorted-requires : tie.Need-add-sorted-requires
+add-sorted-requires c κs =
+    let args = c .before .before .before .before .before .before .before .before .before .args in
+    let pre = c .before .before .before .before .before .before .before .before .before .pre in
+    (omega (arith, listed-count (c .before .before .before .before .before .pause-keys .ensures), listed-fits (c .before .before .before .before .before .pause-keys .ensures), c .before .before .before .before .before .pause-keys .kept, c .before .before .before .before .before .before .before .blank .ensures, c .before .before .before .blank2 .ensures), turn-fits (pauses-keyed (args .db .now) (args .threshold) (args .start) (args .end) (omega (arith, pre .1, pre .2))) (c .before .before .before .before .before .pause-keys .ensures))
+
+returns : tie.Need-returns
+returns c =
+    let args = c .before .before .before .before .before .before .before .before .before .before .before .before .args in
+    let pre = c .before .before .before .before .before .before .before .before .before .before .before .before .pre in
+    turn-added (pauses-keyed (args .db .now) (args .threshold) (args .start) (args .end) (omega (arith, pre .1, pre .2))) (c .before .before .before .before .before .before .before .before .pause-keys .ensures) (c .before .before .add-sorted .ensures)
+
+pub add-pauses-spec : {M : Type 1} → statement M
+add-pauses-spec =
+    tie.close
+    (tie.spec
+    blank-requires
+    slice-aggregate-pause-keys
+    pause-keys-requires
+    blank-requires-2
+    array-borrow-prefix-keys
+    slice-aggregate-add-sorted
+    slice-aggregate-add-sorted-2
+    add-sorted-requires
+    returns)
