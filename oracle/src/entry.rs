@@ -242,6 +242,21 @@ pub fn nuclei(
     region: (u32, u32),
     list: &mut [Mark],
 ) -> Answer<usize> {
+    nuclei_by(put_nuclei, db, pitch, settings, region, list)
+}
+
+/// Nuclei without refusals: dB, pitch, settings, region, the lent list; how many.
+pub type Nuclei = fn(&[f32], &[f32], Settings, (u32, u32), &mut [Mark]) -> usize;
+
+/// [`nuclei`], the work done by the given function.
+pub fn nuclei_by(
+    work: Nuclei,
+    db: &[f32],
+    pitch: &[f32],
+    settings: Settings,
+    region: (u32, u32),
+    list: &mut [Mark],
+) -> Answer<usize> {
     admitted(&Given {
         db: Some(db),
         pitch: Some((pitch, PITCH)),
@@ -250,7 +265,18 @@ pub fn nuclei(
         rooms: &[(list.len(), 0)],
         ..Given::default()
     })?;
-    Ok(put(list, found_nuclei(db, pitch, settings, region)))
+    Ok(work(db, pitch, settings, region, list))
+}
+
+/// The reference's nuclei.
+pub fn put_nuclei(
+    db: &[f32],
+    pitch: &[f32],
+    settings: Settings,
+    region: (u32, u32),
+    list: &mut [Mark],
+) -> usize {
+    put(list, found_nuclei(db, pitch, settings, region))
 }
 
 /// The extra candidates and their edges into the fronts of two lists; how many of each.
@@ -290,12 +316,48 @@ pub fn boundaries_with(
     nuclei: &[u32],
     list: &mut [u32],
 ) -> Answer<usize> {
+    let around = (region, nuclei);
+    boundaries_by(put_boundaries, db, pitch, voiced_p, settings, around, list)
+}
+
+/// A region and the nuclei given with it.
+pub type Around<'a> = ((u32, u32), &'a [u32]);
+
+/// Boundaries without refusals: dB, pitch, `voiced_p`, settings, region and nuclei, the lent list;
+/// how many.
+pub type Boundaries = fn(&[f32], &[f32], &[f32], Settings, Around, &mut [u32]) -> usize;
+
+/// [`boundaries_with`], the work done by the given function.
+pub fn boundaries_by(
+    work: Boundaries,
+    db: &[f32],
+    pitch: &[f32],
+    voiced_p: &[f32],
+    settings: Settings,
+    around: Around,
+    list: &mut [u32],
+) -> Answer<usize> {
+    let (region, nuclei) = around;
     admitted(&Given {
         settings: Some(settings),
         ..for_boundaries(db, pitch, voiced_p, region, nuclei, &[(list.len(), 1)])
     })?;
-    let found = found_boundaries(db, pitch, voiced_p, settings, region, nuclei);
-    Ok(put(list, found))
+    Ok(work(db, pitch, voiced_p, settings, around, list))
+}
+
+/// The reference's boundaries.
+pub fn put_boundaries(
+    db: &[f32],
+    pitch: &[f32],
+    voiced_p: &[f32],
+    settings: Settings,
+    (region, nuclei): Around,
+    list: &mut [u32],
+) -> usize {
+    put(
+        list,
+        found_boundaries(db, pitch, voiced_p, settings, region, nuclei),
+    )
 }
 
 /// [`boundaries_with`] under the reference's own defaults; no setting is given or tested.

@@ -14,10 +14,19 @@ pub fn answer(kind: u8, input: &[u8]) -> Option<Vec<u8>> {
             out_len: usize,
         ) -> usize;
     }
-    // Recovery is not among the library's answers yet: its function stands behind our refusals.
-    if kind == 35 {
-        let mut reader = crate::bytes::Reader::new(input);
-        return crate::stages::recovery_by(stages::recovered, &mut reader).map(|w| w.bytes);
+    // These are not among the library's answers yet: its functions stand behind our refusals.
+    let mut reader = crate::bytes::Reader::new(input);
+    let behind = match kind {
+        35 => Some(crate::stages::recovery_by(stages::recovered, &mut reader)),
+        40 => Some(crate::stages::nuclei_by(stages::put_nuclei, &mut reader)),
+        42 => Some(crate::stages::boundaries_by(
+            stages::put_boundaries,
+            &mut reader,
+        )),
+        _ => None,
+    };
+    if let Some(answer) = behind {
+        return answer.map(|w| w.bytes);
     }
     // What is past the answer is not looked at; it starts out as something no answer relies on.
     let mut out = vec![0xa5; MAX_BYTES];
@@ -70,6 +79,7 @@ pub fn stage(name: &str) -> Option<Stage> {
         "repair" => stages::repair,
         "recovery" => stages::recovery,
         "nuclei" => stages::nuclei,
+        "boundaries" => stages::boundaries,
         _ => return None,
     })
 }
@@ -79,7 +89,7 @@ pub fn stage(name: &str) -> Option<Stage> {
 #[cfg(feature = "rattle")]
 mod stages {
     use crate::bench::{Prepared, Room};
-    use crate::entry::{DEFAULTS, MAX_FRAMES};
+    use crate::entry::{Around, Mark, Settings, DEFAULTS, MAX_FRAMES};
     use std::hint::black_box;
 
     extern "C" {
@@ -120,6 +130,23 @@ mod stages {
             strengths: *mut f32,
             strengths_room: usize,
         ) -> usize;
+        fn kiddwyr_boundaries(
+            db: *const f32,
+            frames: usize,
+            pitch: *const f32,
+            pitch_len: usize,
+            voiced_p: *const f32,
+            voiced_p_len: usize,
+            start: usize,
+            end: usize,
+            nuclei: *const u32,
+            nuclei_len: usize,
+            margin: f32,
+            dip: f32,
+            gap: u32,
+            out: *mut u32,
+            room: usize,
+        ) -> usize;
     }
 
     pub fn repair(_: &Prepared, room: &mut Room) {
@@ -148,25 +175,118 @@ mod stages {
         recovered(&mut room.pitch, &t.samples, &t.speech, &t.vowel);
     }
 
-    pub fn nuclei(t: &Prepared, room: &mut Room) {
-        // SAFETY: as below; the pitches are as many as the dB, and the region ends within them.
-        black_box(unsafe {
+    /// The library's nuclei at the front of a list of marks.
+    pub fn put_nuclei(
+        db: &[f32],
+        pitch: &[f32],
+        p: Settings,
+        region: (u32, u32),
+        list: &mut [Mark],
+    ) -> usize {
+        let (mut frames, mut strengths) = (vec![0; list.len()], vec![0.0; list.len()]);
+        let count = found_nuclei(db, pitch, p, region, &mut frames, &mut strengths);
+        for (mark, (frame, strength)) in list
+            .iter_mut()
+            .zip(frames.iter().zip(&strengths))
+            .take(count)
+        {
+            *mark = Mark {
+                frame: *frame,
+                strength: *strength,
+            };
+        }
+        count
+    }
+
+    fn found_nuclei(
+        db: &[f32],
+        pitch: &[f32],
+        p: Settings,
+        region: (u32, u32),
+        frames: &mut [u32],
+        strengths: &mut [f32],
+    ) -> usize {
+        assert!(db.len() <= MAX_FRAMES && pitch.len() == db.len());
+        assert!(region.1 as usize <= db.len());
+        assert!(db.len() <= frames.len() && db.len() <= strengths.len());
+        // SAFETY: what the function asks was just tested; each pointer comes with its length.
+        unsafe {
             kiddwyr_nuclei(
-                t.db.as_ptr(),
-                t.db.len(),
-                t.pitch.as_ptr(),
-                t.pitch.len(),
-                t.region.0 as usize,
-                t.region.1 as usize,
-                DEFAULTS.margin,
-                DEFAULTS.dip,
-                DEFAULTS.gap,
-                room.edges.as_mut_ptr(),
-                room.edges.len(),
-                room.floats.as_mut_ptr(),
-                room.floats.len(),
+                db.as_ptr(),
+                db.len(),
+                pitch.as_ptr(),
+                pitch.len(),
+                region.0 as usize,
+                region.1 as usize,
+                p.margin,
+                p.dip,
+                p.gap,
+                frames.as_mut_ptr(),
+                frames.len(),
+                strengths.as_mut_ptr(),
+                strengths.len(),
             )
-        });
+        }
+    }
+
+    pub fn nuclei(t: &Prepared, room: &mut Room) {
+        black_box(found_nuclei(
+            &t.db,
+            &t.pitch,
+            DEFAULTS,
+            t.region,
+            &mut room.edges,
+            &mut room.floats,
+        ));
+    }
+
+    /// The library's boundaries at the front of a list.
+    pub fn put_boundaries(
+        db: &[f32],
+        pitch: &[f32],
+        voiced_p: &[f32],
+        p: Settings,
+        (region, nuclei): Around,
+        list: &mut [u32],
+    ) -> usize {
+        assert!(db.len() <= MAX_FRAMES && pitch.len() == db.len() && voiced_p.len() == db.len());
+        assert!(region.0 <= region.1 && region.1 as usize <= db.len());
+        assert!(nuclei.windows(2).all(|w| w[0] < w[1]));
+        assert!(nuclei.last().is_none_or(|&f| (f as usize) < db.len()));
+        assert!(db.len() < list.len());
+        // SAFETY: what the function asks was just tested; each pointer comes with its length.
+        unsafe {
+            kiddwyr_boundaries(
+                db.as_ptr(),
+                db.len(),
+                pitch.as_ptr(),
+                pitch.len(),
+                voiced_p.as_ptr(),
+                voiced_p.len(),
+                region.0 as usize,
+                region.1 as usize,
+                nuclei.as_ptr(),
+                nuclei.len(),
+                p.margin,
+                p.dip,
+                p.gap,
+                list.as_mut_ptr(),
+                list.len(),
+            )
+        }
+    }
+
+    pub fn boundaries(t: &Prepared, room: &mut Room) {
+        let around = (t.region, t.nuclei.as_slice());
+        let list = &mut room.boundaries;
+        black_box(put_boundaries(
+            &t.db,
+            &t.pitch,
+            &t.voiced_p,
+            DEFAULTS,
+            around,
+            list,
+        ));
     }
 
     pub fn region(t: &Prepared, _: &mut Room) {

@@ -150,12 +150,19 @@ fn write_region(w: Writer, found: Option<(u32, u32)>) -> Writer {
 }
 
 pub fn nuclei(r: &mut Reader) -> Option<Writer> {
+    nuclei_by(entry::put_nuclei, r)
+}
+
+/// The answer of another function behind the same refusals.
+pub fn nuclei_by(work: entry::Nuclei, r: &mut Reader) -> Option<Writer> {
     let (settings, region) = (settings(r)?, region(r)?);
     let [room, dbs, pitches] = counts(r)?;
     let db = r.many(dbs, Reader::f32)?;
     let pitch = r.many(pitches, Reader::f32)?;
     let mut list = marks(room);
-    let (refusal, count) = outcome(entry::nuclei(&db, &pitch, settings, region, &mut list));
+    let (refusal, count) = outcome(entry::nuclei_by(
+        work, &db, &pitch, settings, region, &mut list,
+    ));
     Some(write_marks(Writer::new().u8(refusal).size(count), &list))
 }
 
@@ -175,15 +182,23 @@ pub fn extras(r: &mut Reader) -> Option<Writer> {
 }
 
 pub fn boundaries_with(r: &mut Reader) -> Option<Writer> {
+    boundaries_by(entry::put_boundaries, r)
+}
+
+/// The answer of another function behind the same refusals.
+pub fn boundaries_by(work: entry::Boundaries, r: &mut Reader) -> Option<Writer> {
     let settings = settings(r)?;
-    boundaries_of(r, Some(settings))
+    boundaries_of(r, Some((work, settings)))
 }
 
 pub fn boundaries(r: &mut Reader) -> Option<Writer> {
     boundaries_of(r, None)
 }
 
-fn boundaries_of(r: &mut Reader, settings: Option<Settings>) -> Option<Writer> {
+fn boundaries_of(
+    r: &mut Reader,
+    settings: Option<(entry::Boundaries, Settings)>,
+) -> Option<Writer> {
     let region = region(r)?;
     let [room, dbs, pitches, voiced, given] = counts(r)?;
     let db = r.many(dbs, Reader::f32)?;
@@ -192,7 +207,10 @@ fn boundaries_of(r: &mut Reader, settings: Option<Settings>) -> Option<Writer> {
     let given = r.many(given, Reader::u32)?;
     let mut list = frames(room);
     let (refusal, count) = outcome(match settings {
-        Some(s) => entry::boundaries_with(&db, &pitch, &voiced_p, s, region, &given, &mut list),
+        Some((work, s)) => {
+            let around = (region, given.as_slice());
+            entry::boundaries_by(work, &db, &pitch, &voiced_p, s, around, &mut list)
+        }
         None => entry::boundaries(&db, &pitch, &voiced_p, region, &given, &mut list),
     });
     Some(write_frames(Writer::new().u8(refusal).size(count), &list))
