@@ -1,6 +1,6 @@
 //! Speed: each stage of both sides on the same takes, alternated in one process.
 
-use crate::entry::{self, Mark, DEFAULTS, MAX_FRAMES};
+use crate::entry::{self, DEFAULTS, MAX_FRAMES};
 use crate::random::Random;
 use crate::rattle;
 use std::f64::consts::TAU;
@@ -41,25 +41,21 @@ pub struct Prepared {
 pub struct Room {
     pub pitch: Vec<f32>,
     pub floats: Vec<f32>,
-    pub marks: Vec<u8>,
-    pub nuclei: Vec<Mark>,
-    pub extras: Vec<Mark>,
+    pub strengths: Vec<f32>,
+    pub frames: Vec<u32>,
+    pub extras: Vec<u32>,
     pub edges: Vec<u32>,
     pub boundaries: Vec<u32>,
 }
 
 impl Room {
     fn new() -> Room {
-        let blank = Mark {
-            frame: 0,
-            strength: 0.0,
-        };
         Room {
             pitch: vec![0.0; MAX_FRAMES],
             floats: vec![0.0; MAX_FRAMES],
-            marks: vec![0; MAX_FRAMES],
-            nuclei: vec![blank; MAX_FRAMES],
-            extras: vec![blank; MAX_FRAMES],
+            strengths: vec![0.0; MAX_FRAMES],
+            frames: vec![0; MAX_FRAMES],
+            extras: vec![0; MAX_FRAMES],
             edges: vec![0; MAX_FRAMES],
             boundaries: vec![0; MAX_FRAMES + 1],
         }
@@ -239,6 +235,43 @@ fn tone(seed: u64, tracked: bool) -> Tracks {
     recorded(r, &frames)
 }
 
+/// Runs of 5 frames, 4 apart, as many as there is room for, each of them a little louder in its
+/// middle than what is between them.
+fn short_runs(seed: u64) -> Tracks {
+    let r = &mut Random::new(seed);
+    let quiet = MAX_FRAMES / 8;
+    let mut frames: Vec<Frame> = Vec::new();
+    for i in 0..MAX_FRAMES {
+        let on = i >= quiet;
+        let hz = (on && i % 9 < 5).then(|| r.real(180.0, 220.0));
+        let top = if hz.is_some() { -20.0 } else { -26.0 };
+        frames.push(Frame {
+            db: if on { top + r.real(-3.0, 3.0) } else { -60.0 },
+            hz,
+            tracked: hz.unwrap_or(0.0),
+            vowel: on,
+        });
+    }
+    recorded(r, &frames)
+}
+
+/// Speech with a pause at every fourth frame.
+fn pauses(seed: u64) -> Tracks {
+    let r = &mut Random::new(seed);
+    let mut frames: Vec<Frame> = Vec::new();
+    for i in 0..MAX_FRAMES {
+        let on = i % 4 != 3;
+        let hz = r.real(180.0, 220.0);
+        frames.push(Frame {
+            db: if on { -20.0 } else { -60.0 } + r.real(-3.0, 3.0),
+            hz: on.then_some(hz),
+            tracked: if i % 40 < 32 { hz } else { 0.0 },
+            vowel: on,
+        });
+    }
+    recorded(r, &frames)
+}
+
 /// A stage of the reference, on a track of its own where it changes one.
 type Reference = fn(&Prepared, &mut F0Track);
 
@@ -286,6 +319,19 @@ const STAGES: &[(&str, Reference)] = &[
 ];
 
 const RECOVERY: &str = "recovery";
+const SHORT_RUNS: &str = "short runs";
+const PAUSES: &str = "pauses";
+
+/// The sorts of take that a stage is measured on.
+fn sorts(stage: &str) -> Vec<&'static str> {
+    let more = match stage {
+        "nuclei" | "extras" => vec![SHORT_RUNS],
+        "boundaries" => vec![PAUSES],
+        "chain" => vec![SHORT_RUNS, PAUSES],
+        _ => vec![],
+    };
+    [vec!["speech", "silence", "steady tone"], more].concat()
+}
 
 fn chain(t: &Prepared, track: &mut F0Track) {
     tonekit_f0::repair_octaves(track);
@@ -317,6 +363,12 @@ fn takes(sort: &str, stage: &str) -> Vec<Prepared> {
             .map(|seed| speech(seed).prepared(false))
             .collect(),
         "silence" => vec![silence().prepared(true)],
+        SHORT_RUNS => (0..VARIANTS)
+            .map(|seed| short_runs(seed).prepared(false))
+            .collect(),
+        PAUSES => (0..VARIANTS)
+            .map(|seed| pauses(seed).prepared(false))
+            .collect(),
         _ => (0..2)
             .map(|seed| tone(seed, !untracked).prepared(untracked))
             .collect(),
@@ -328,7 +380,7 @@ pub fn table(only: &str, mut show: impl FnMut(&str)) {
     show("| stage | take | Rust µs | Rattle µs | ratio |");
     show("|---|---|---:|---:|---:|");
     for &(stage, reference) in STAGES {
-        for sort in ["speech", "silence", "steady tone"] {
+        for sort in sorts(stage) {
             if !format!("{stage} {sort}").contains(only) {
                 continue;
             }

@@ -144,6 +144,15 @@ pub fn below_the_chain() -> Take {
     )
 }
 
+/// A nucleus on the frame of an unpitched peak, which loses its mark.
+pub fn lost_mark() -> Take {
+    let settings = Settings {
+        margin: 0.0,
+        ..DEFAULTS
+    };
+    take(settings, 1, |_| -20.0, |_| 0.0, |_| 0.5)
+}
+
 /// `speech` loud frames among 20.
 fn speech_frames(speech: usize) -> Vec<f32> {
     (0..20)
@@ -222,16 +231,6 @@ pub fn all() -> Vec<Case> {
         take.pitch[3] = 38.0;
         take
     };
-    let lost_mark = take(
-        Settings {
-            margin: 0.0,
-            ..DEFAULTS
-        },
-        1,
-        |_| -20.0,
-        |_| 0.0,
-        |_| 0.5,
-    );
     vec![
         case("K1", "whole listing", shown(&k1(), K1_LISTING)),
         case(
@@ -356,7 +355,7 @@ pub fn all() -> Vec<Case> {
             "mark",
             "an extra on a nucleus's frame",
             same(
-                extras(&lost_mark, (0, 1), &[0]),
+                extras(&lost_mark(), (0, 1), &[0]),
                 Ok((vec![mark(0, 0.0)], vec![])),
             ),
         ),

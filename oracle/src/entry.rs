@@ -209,20 +209,6 @@ pub fn repair(pitch: &mut [f32]) -> Answer<()> {
 
 /// Pitches given to periodic stretches without one, in place.
 pub fn recover(pitch: &mut [f32], samples: &[i16], speech: &[u8], vowel: &[u8]) -> Answer<()> {
-    recover_by(recovered, pitch, samples, speech, vowel)
-}
-
-/// A recovery without refusals: pitches, samples, speech marks, vowel marks.
-pub type Recovery = fn(&mut [f32], &[i16], &[u8], &[u8]);
-
-/// [`recover`], the work done by the given function.
-pub fn recover_by(
-    work: Recovery,
-    pitch: &mut [f32],
-    samples: &[i16],
-    speech: &[u8],
-    vowel: &[u8],
-) -> Answer<()> {
     admitted(&Given {
         pitch: Some((pitch, PITCH)),
         speech: Some(speech),
@@ -230,27 +216,12 @@ pub fn recover_by(
         samples: Some(samples.len()),
         ..Given::default()
     })?;
-    work(pitch, samples, speech, vowel);
+    recovered(pitch, samples, speech, vowel);
     Ok(())
 }
 
 /// The nuclei of a region into the front of `list`; how many.
 pub fn nuclei(
-    db: &[f32],
-    pitch: &[f32],
-    settings: Settings,
-    region: (u32, u32),
-    list: &mut [Mark],
-) -> Answer<usize> {
-    nuclei_by(put_nuclei, db, pitch, settings, region, list)
-}
-
-/// Nuclei without refusals: dB, pitch, settings, region, the lent list; how many.
-pub type Nuclei = fn(&[f32], &[f32], Settings, (u32, u32), &mut [Mark]) -> usize;
-
-/// [`nuclei`], the work done by the given function.
-pub fn nuclei_by(
-    work: Nuclei,
     db: &[f32],
     pitch: &[f32],
     settings: Settings,
@@ -265,18 +236,7 @@ pub fn nuclei_by(
         rooms: &[(list.len(), 0)],
         ..Given::default()
     })?;
-    Ok(work(db, pitch, settings, region, list))
-}
-
-/// The reference's nuclei.
-pub fn put_nuclei(
-    db: &[f32],
-    pitch: &[f32],
-    settings: Settings,
-    region: (u32, u32),
-    list: &mut [Mark],
-) -> usize {
-    put(list, found_nuclei(db, pitch, settings, region))
+    Ok(put(list, found_nuclei(db, pitch, settings, region)))
 }
 
 /// The extra candidates and their edges into the fronts of two lists; how many of each.
@@ -316,48 +276,12 @@ pub fn boundaries_with(
     nuclei: &[u32],
     list: &mut [u32],
 ) -> Answer<usize> {
-    let around = (region, nuclei);
-    boundaries_by(put_boundaries, db, pitch, voiced_p, settings, around, list)
-}
-
-/// A region and the nuclei given with it.
-pub type Around<'a> = ((u32, u32), &'a [u32]);
-
-/// Boundaries without refusals: dB, pitch, `voiced_p`, settings, region and nuclei, the lent list;
-/// how many.
-pub type Boundaries = fn(&[f32], &[f32], &[f32], Settings, Around, &mut [u32]) -> usize;
-
-/// [`boundaries_with`], the work done by the given function.
-pub fn boundaries_by(
-    work: Boundaries,
-    db: &[f32],
-    pitch: &[f32],
-    voiced_p: &[f32],
-    settings: Settings,
-    around: Around,
-    list: &mut [u32],
-) -> Answer<usize> {
-    let (region, nuclei) = around;
     admitted(&Given {
         settings: Some(settings),
         ..for_boundaries(db, pitch, voiced_p, region, nuclei, &[(list.len(), 1)])
     })?;
-    Ok(work(db, pitch, voiced_p, settings, around, list))
-}
-
-/// The reference's boundaries.
-pub fn put_boundaries(
-    db: &[f32],
-    pitch: &[f32],
-    voiced_p: &[f32],
-    settings: Settings,
-    (region, nuclei): Around,
-    list: &mut [u32],
-) -> usize {
-    put(
-        list,
-        found_boundaries(db, pitch, voiced_p, settings, region, nuclei),
-    )
+    let found = found_boundaries(db, pitch, voiced_p, settings, region, nuclei);
+    Ok(put(list, found))
 }
 
 /// [`boundaries_with`] under the reference's own defaults; no setting is given or tested.
@@ -527,7 +451,7 @@ fn repaired(pitch: &mut [f32]) {
     write_back(&track, pitch);
 }
 
-pub fn recovered(pitch: &mut [f32], samples: &[i16], speech: &[u8], vowel: &[u8]) {
+fn recovered(pitch: &mut [f32], samples: &[i16], speech: &[u8], vowel: &[u8]) {
     let masks = |marks: &[u8]| marks.iter().map(|&m| m == 1).collect::<Vec<bool>>();
     let mut track = f0(pitch, &[]);
     tonekit_f0::recover_pitch(&mut track, &pcm(samples), &masks(speech), &masks(vowel));

@@ -641,20 +641,30 @@ pub fn fixed(kind: u8) -> Vec<Vec<u8>> {
             let tie = Writer::new().size(4).each([0, 2, 6, 9], Writer::size);
             vec![Writer::new().size(3).bytes, tie.bytes]
         }
-        32 => vec![
-            vec![],
-            floats(&[118.0, 118.0, 200.0, 118.0, 118.0]),
-            floats(&[119.0, 119.0, 200.0, 119.0, 119.0]),
-            floats(&[110.0, 110.0, 200.0, 128.0, 128.0]),
-            floats(&[110.0, 110.0, 200.0, 130.0, 130.0]),
-            floats(&[44.0, 44.0, 44.0, 76.0, 44.0, 44.0, 44.0]),
-            floats(&[-0.0]),
-            floats(&[39.0]),
-        ],
+        32 => [
+            vec![
+                vec![],
+                floats(&[118.0, 118.0, 200.0, 118.0, 118.0]),
+                floats(&[119.0, 119.0, 200.0, 119.0, 119.0]),
+                floats(&[110.0, 110.0, 200.0, 128.0, 128.0]),
+                floats(&[110.0, 110.0, 200.0, 130.0, 130.0]),
+                floats(&[44.0, 44.0, 44.0, 76.0, 44.0, 44.0, 44.0]),
+                floats(&[-0.0]),
+                floats(&[39.0]),
+            ],
+            stages::refused(kind),
+        ]
+        .concat(),
         56 => [cases::k1(), k2, k3, cases::split_outside()]
             .iter()
             .map(|take| take.write())
             .collect(),
+        33 => {
+            // K7, of which the first four lags are asked for.
+            let samples = [0, 1, 0, 2, 0, 1, 0, 2];
+            vec![vec![], Writer::new().each(samples, Writer::u8).bytes]
+        }
+        35..=48 => stages::fixed(kind),
         _ => vec![],
     }
 }

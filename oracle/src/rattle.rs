@@ -6,7 +6,7 @@ pub fn answer(kind: u8, input: &[u8]) -> Option<Vec<u8>> {
     use crate::kinds::MAX_BYTES;
 
     extern "C" {
-        fn kiddwyr_answer(
+        fn judge_answer(
             kind: u32,
             input: *const u8,
             input_len: usize,
@@ -14,26 +14,12 @@ pub fn answer(kind: u8, input: &[u8]) -> Option<Vec<u8>> {
             out_len: usize,
         ) -> usize;
     }
-    // These are not among the library's answers yet: its functions stand behind our refusals.
-    let mut reader = crate::bytes::Reader::new(input);
-    let behind = match kind {
-        35 => Some(crate::stages::recovery_by(stages::recovered, &mut reader)),
-        40 => Some(crate::stages::nuclei_by(stages::put_nuclei, &mut reader)),
-        42 => Some(crate::stages::boundaries_by(
-            stages::put_boundaries,
-            &mut reader,
-        )),
-        _ => None,
-    };
-    if let Some(answer) = behind {
-        return answer.map(|w| w.bytes);
-    }
     // What is past the answer is not looked at; it starts out as something no answer relies on.
     let mut out = vec![0xa5; MAX_BYTES];
     // SAFETY: both pointers come with the lengths of live slices, and the function is proved to
     // stay within them.
     let count = unsafe {
-        kiddwyr_answer(
+        judge_answer(
             kind.into(),
             input.as_ptr(),
             input.len(),
@@ -79,24 +65,27 @@ pub fn stage(name: &str) -> Option<Stage> {
         "repair" => stages::repair,
         "recovery" => stages::recovery,
         "nuclei" => stages::nuclei,
+        "extras" => stages::extras,
         "boundaries" => stages::boundaries,
+        "chain" => stages::chain,
         _ => return None,
     })
 }
 
-/// The stages under their C names. Every take is of at most 2,048 frames and the room has as many
-/// entries, which is all that the functions ask.
+/// The stages under their C names. Every take has 2,048 frames, as many values in every track, and
+/// the room as many entries in every list, which is all that the functions ask; a pitch is 0 or
+/// within 40 to 2,000 Hz.
 #[cfg(feature = "rattle")]
 mod stages {
     use crate::bench::{Prepared, Room};
-    use crate::entry::{Around, Mark, Settings, DEFAULTS, MAX_FRAMES};
+    use crate::entry::{DEFAULTS, MAX_FRAMES};
     use std::hint::black_box;
 
     extern "C" {
-        fn kiddwyr_region(db: *const f32, frames: usize, margin: f32) -> u64;
-        fn kiddwyr_level(db: *const f32, frames: usize, out: *mut f32, room: usize);
-        fn kiddwyr_extrema(s: *const f32, frames: usize, out: *mut u32, room: usize) -> usize;
-        fn kiddwyr_runs(
+        fn judge_region(db: *const f32, frames: usize, margin: f32) -> u64;
+        fn judge_level(db: *const f32, frames: usize, out: *mut f32, room: usize);
+        fn judge_extrema(s: *const f32, frames: usize, out: *mut u32, room: usize) -> usize;
+        fn judge_runs(
             pitch: *const f32,
             frames: usize,
             a: *mut u32,
@@ -104,8 +93,8 @@ mod stages {
             b: *mut u32,
             b_room: usize,
         ) -> usize;
-        fn kiddwyr_repair(pitch: *mut f32, frames: usize);
-        fn kiddwyr_recover(
+        fn judge_repair(pitch: *mut f32, frames: usize);
+        fn judge_recover(
             pitch: *mut f32,
             frames: usize,
             samples: *const i16,
@@ -115,7 +104,7 @@ mod stages {
             vowel: *const u8,
             vowel_len: usize,
         );
-        fn kiddwyr_nuclei(
+        fn judge_nuclei(
             db: *const f32,
             frames: usize,
             pitch: *const f32,
@@ -130,7 +119,28 @@ mod stages {
             strengths: *mut f32,
             strengths_room: usize,
         ) -> usize;
-        fn kiddwyr_boundaries(
+        fn judge_extras(
+            db: *const f32,
+            frames: usize,
+            pitch: *const f32,
+            pitch_len: usize,
+            sonority: *const f32,
+            sonority_len: usize,
+            start: usize,
+            end: usize,
+            nuclei: *const u32,
+            nuclei_len: usize,
+            margin: f32,
+            dip: f32,
+            gap: u32,
+            list: *mut u32,
+            list_room: usize,
+            strengths: *mut f32,
+            strengths_room: usize,
+            edges: *mut u32,
+            edges_room: usize,
+        ) -> usize;
+        fn judge_boundaries(
             db: *const f32,
             frames: usize,
             pitch: *const f32,
@@ -147,157 +157,191 @@ mod stages {
             out: *mut u32,
             room: usize,
         ) -> usize;
+        fn judge_chain(
+            db: *const f32,
+            frames: usize,
+            pitch: *mut f32,
+            pitch_len: usize,
+            voiced_p: *const f32,
+            voiced_p_len: usize,
+            sonority: *const f32,
+            sonority_len: usize,
+            vowel: *const u8,
+            vowel_len: usize,
+            samples: *const i16,
+            samples_len: usize,
+            margin: f32,
+            dip: f32,
+            gap: u32,
+            list: *mut u32,
+            list_room: usize,
+            strengths: *mut f32,
+            strengths_room: usize,
+            extras: *mut u32,
+            extras_room: usize,
+            extra_strengths: *mut f32,
+            extra_strengths_room: usize,
+            edges: *mut u32,
+            edges_room: usize,
+            boundaries: *mut u32,
+            boundaries_room: usize,
+        ) -> u32;
     }
 
-    pub fn repair(_: &Prepared, room: &mut Room) {
-        // SAFETY: as below; the takes' pitches are 0 or lie within 40 to 2,000 Hz.
-        unsafe { kiddwyr_repair(room.pitch.as_mut_ptr(), room.pitch.len()) };
+    /// What every function below relies on.
+    fn full(t: &Prepared, room: &Room) {
+        let tracks = [&t.db, &t.pitch, &t.voiced_p, &t.sonority, &t.level];
+        assert!(tracks.iter().all(|track| track.len() == MAX_FRAMES));
+        let lists = [&room.frames, &room.extras, &room.edges];
+        assert!(lists.iter().all(|list| list.len() == MAX_FRAMES));
+        assert!(room.floats.len() == MAX_FRAMES && room.strengths.len() == MAX_FRAMES);
+        assert!(room.boundaries.len() == MAX_FRAMES + 1);
+        assert!(t.region.0 <= t.region.1 && t.region.1 as usize <= MAX_FRAMES);
     }
 
-    pub fn recovered(pitch: &mut [f32], samples: &[i16], speech: &[u8], vowel: &[u8]) {
-        assert!(pitch.len() <= MAX_FRAMES);
-        // SAFETY: each pointer comes with the length of a live slice.
+    pub fn repair(t: &Prepared, room: &mut Room) {
+        full(t, room);
+        // SAFETY: as the module says.
+        unsafe { judge_repair(room.pitch.as_mut_ptr(), room.pitch.len()) };
+    }
+
+    pub fn recovery(t: &Prepared, room: &mut Room) {
+        full(t, room);
+        // SAFETY: as the module says.
         unsafe {
-            kiddwyr_recover(
-                pitch.as_mut_ptr(),
-                pitch.len(),
-                samples.as_ptr(),
-                samples.len(),
-                speech.as_ptr(),
-                speech.len(),
-                vowel.as_ptr(),
-                vowel.len(),
+            judge_recover(
+                room.pitch.as_mut_ptr(),
+                room.pitch.len(),
+                t.samples.as_ptr(),
+                t.samples.len(),
+                t.speech.as_ptr(),
+                t.speech.len(),
+                t.vowel.as_ptr(),
+                t.vowel.len(),
             );
         }
     }
 
-    pub fn recovery(t: &Prepared, room: &mut Room) {
-        recovered(&mut room.pitch, &t.samples, &t.speech, &t.vowel);
-    }
-
-    /// The library's nuclei at the front of a list of marks.
-    pub fn put_nuclei(
-        db: &[f32],
-        pitch: &[f32],
-        p: Settings,
-        region: (u32, u32),
-        list: &mut [Mark],
-    ) -> usize {
-        let (mut frames, mut strengths) = (vec![0; list.len()], vec![0.0; list.len()]);
-        let count = found_nuclei(db, pitch, p, region, &mut frames, &mut strengths);
-        for (mark, (frame, strength)) in list
-            .iter_mut()
-            .zip(frames.iter().zip(&strengths))
-            .take(count)
-        {
-            *mark = Mark {
-                frame: *frame,
-                strength: *strength,
-            };
-        }
-        count
-    }
-
-    fn found_nuclei(
-        db: &[f32],
-        pitch: &[f32],
-        p: Settings,
-        region: (u32, u32),
-        frames: &mut [u32],
-        strengths: &mut [f32],
-    ) -> usize {
-        assert!(db.len() <= MAX_FRAMES && pitch.len() == db.len());
-        assert!(region.1 as usize <= db.len());
-        assert!(db.len() <= frames.len() && db.len() <= strengths.len());
-        // SAFETY: what the function asks was just tested; each pointer comes with its length.
-        unsafe {
-            kiddwyr_nuclei(
-                db.as_ptr(),
-                db.len(),
-                pitch.as_ptr(),
-                pitch.len(),
-                region.0 as usize,
-                region.1 as usize,
-                p.margin,
-                p.dip,
-                p.gap,
-                frames.as_mut_ptr(),
-                frames.len(),
-                strengths.as_mut_ptr(),
-                strengths.len(),
-            )
-        }
-    }
-
     pub fn nuclei(t: &Prepared, room: &mut Room) {
-        black_box(found_nuclei(
-            &t.db,
-            &t.pitch,
-            DEFAULTS,
-            t.region,
-            &mut room.edges,
-            &mut room.floats,
-        ));
+        full(t, room);
+        // SAFETY: as the module says.
+        black_box(unsafe {
+            judge_nuclei(
+                t.db.as_ptr(),
+                t.db.len(),
+                t.pitch.as_ptr(),
+                t.pitch.len(),
+                t.region.0 as usize,
+                t.region.1 as usize,
+                DEFAULTS.margin,
+                DEFAULTS.dip,
+                DEFAULTS.gap,
+                room.frames.as_mut_ptr(),
+                room.frames.len(),
+                room.floats.as_mut_ptr(),
+                room.floats.len(),
+            )
+        });
     }
 
-    /// The library's boundaries at the front of a list.
-    pub fn put_boundaries(
-        db: &[f32],
-        pitch: &[f32],
-        voiced_p: &[f32],
-        p: Settings,
-        (region, nuclei): Around,
-        list: &mut [u32],
-    ) -> usize {
-        assert!(db.len() <= MAX_FRAMES && pitch.len() == db.len() && voiced_p.len() == db.len());
-        assert!(region.0 <= region.1 && region.1 as usize <= db.len());
-        assert!(nuclei.windows(2).all(|w| w[0] < w[1]));
-        assert!(nuclei.last().is_none_or(|&f| (f as usize) < db.len()));
-        assert!(db.len() < list.len());
-        // SAFETY: what the function asks was just tested; each pointer comes with its length.
-        unsafe {
-            kiddwyr_boundaries(
-                db.as_ptr(),
-                db.len(),
-                pitch.as_ptr(),
-                pitch.len(),
-                voiced_p.as_ptr(),
-                voiced_p.len(),
-                region.0 as usize,
-                region.1 as usize,
-                nuclei.as_ptr(),
-                nuclei.len(),
-                p.margin,
-                p.dip,
-                p.gap,
-                list.as_mut_ptr(),
-                list.len(),
+    pub fn extras(t: &Prepared, room: &mut Room) {
+        full(t, room);
+        // SAFETY: as the module says; the nuclei are the reference's own.
+        black_box(unsafe {
+            judge_extras(
+                t.db.as_ptr(),
+                t.db.len(),
+                t.pitch.as_ptr(),
+                t.pitch.len(),
+                t.sonority.as_ptr(),
+                t.sonority.len(),
+                t.region.0 as usize,
+                t.region.1 as usize,
+                t.nuclei.as_ptr(),
+                t.nuclei.len(),
+                DEFAULTS.margin,
+                DEFAULTS.dip,
+                DEFAULTS.gap,
+                room.extras.as_mut_ptr(),
+                room.extras.len(),
+                room.strengths.as_mut_ptr(),
+                room.strengths.len(),
+                room.edges.as_mut_ptr(),
+                room.edges.len(),
             )
-        }
+        });
     }
 
     pub fn boundaries(t: &Prepared, room: &mut Room) {
-        let around = (t.region, t.nuclei.as_slice());
-        let list = &mut room.boundaries;
-        black_box(put_boundaries(
-            &t.db,
-            &t.pitch,
-            &t.voiced_p,
-            DEFAULTS,
-            around,
-            list,
-        ));
+        full(t, room);
+        // SAFETY: as the module says; the nuclei are the reference's own.
+        black_box(unsafe {
+            judge_boundaries(
+                t.db.as_ptr(),
+                t.db.len(),
+                t.pitch.as_ptr(),
+                t.pitch.len(),
+                t.voiced_p.as_ptr(),
+                t.voiced_p.len(),
+                t.region.0 as usize,
+                t.region.1 as usize,
+                t.nuclei.as_ptr(),
+                t.nuclei.len(),
+                DEFAULTS.margin,
+                DEFAULTS.dip,
+                DEFAULTS.gap,
+                room.boundaries.as_mut_ptr(),
+                room.boundaries.len(),
+            )
+        });
+    }
+
+    pub fn chain(t: &Prepared, room: &mut Room) {
+        full(t, room);
+        // SAFETY: the chain asks nothing; each pointer comes with the length of a live slice.
+        let refusal = unsafe {
+            judge_chain(
+                t.db.as_ptr(),
+                t.db.len(),
+                room.pitch.as_mut_ptr(),
+                room.pitch.len(),
+                t.voiced_p.as_ptr(),
+                t.voiced_p.len(),
+                t.sonority.as_ptr(),
+                t.sonority.len(),
+                t.vowel.as_ptr(),
+                t.vowel.len(),
+                t.samples.as_ptr(),
+                t.samples.len(),
+                DEFAULTS.margin,
+                DEFAULTS.dip,
+                DEFAULTS.gap,
+                room.frames.as_mut_ptr(),
+                room.frames.len(),
+                room.floats.as_mut_ptr(),
+                room.floats.len(),
+                room.extras.as_mut_ptr(),
+                room.extras.len(),
+                room.strengths.as_mut_ptr(),
+                room.strengths.len(),
+                room.edges.as_mut_ptr(),
+                room.edges.len(),
+                room.boundaries.as_mut_ptr(),
+                room.boundaries.len(),
+            )
+        };
+        assert_eq!(refusal, 0, "a take of the bench is refused");
     }
 
     pub fn region(t: &Prepared, _: &mut Room) {
         // SAFETY: the pointer comes with the length of a live slice of at most 2,048 frames.
-        black_box(unsafe { kiddwyr_region(t.db.as_ptr(), t.db.len(), DEFAULTS.margin) });
+        black_box(unsafe { judge_region(t.db.as_ptr(), t.db.len(), DEFAULTS.margin) });
     }
 
     pub fn level(t: &Prepared, room: &mut Room) {
         // SAFETY: as above; the room is as long as the longest take.
         unsafe {
-            kiddwyr_level(
+            judge_level(
                 t.db.as_ptr(),
                 t.db.len(),
                 room.floats.as_mut_ptr(),
@@ -309,7 +353,7 @@ mod stages {
     pub fn extrema(t: &Prepared, room: &mut Room) {
         // SAFETY: as above.
         black_box(unsafe {
-            kiddwyr_extrema(
+            judge_extrema(
                 t.level.as_ptr(),
                 t.level.len(),
                 room.edges.as_mut_ptr(),
@@ -321,7 +365,7 @@ mod stages {
     pub fn runs(t: &Prepared, room: &mut Room) {
         // SAFETY: as above; the two lists are different ones.
         black_box(unsafe {
-            kiddwyr_runs(
+            judge_runs(
                 t.pitch.as_ptr(),
                 t.pitch.len(),
                 room.edges.as_mut_ptr(),

@@ -6,6 +6,7 @@
 //! record is made from a short one: samples are stored once and repeated up to their count.
 
 use crate::bytes::{Reader, Writer};
+use crate::cases;
 use crate::entry::{self, Frames, Lists, Mark, Settings, MAX_FRAMES, MAX_SAMPLES};
 use crate::generate::{length, loudness, pitches, setting};
 use crate::kinds::UNTOUCHED;
@@ -13,9 +14,9 @@ use crate::random::Random;
 use crate::take::{listing, Take};
 use tonekit_f0::probe;
 
-/// The longest window of samples, and the lags measured in it.
+/// The longest window of samples, and the lags measured in it: an estimate reads those from 31 on.
 const WINDOW: usize = 512;
-const LAGS: std::ops::RangeInclusive<usize> = 31..=230;
+const LAGS: std::ops::RangeInclusive<usize> = 1..=230;
 
 // Fields
 
@@ -108,16 +109,11 @@ fn window(r: &mut Reader) -> Option<Vec<i16>> {
 }
 
 pub fn recovery(r: &mut Reader) -> Option<Writer> {
-    recovery_by(entry::recovered, r)
-}
-
-/// The answer of another function behind the same refusals.
-pub fn recovery_by(work: entry::Recovery, r: &mut Reader) -> Option<Writer> {
     let [pitches, speech, vowel, samples, stored] = counts(r)?;
     let mut pitch = r.many(pitches, Reader::f32)?;
     let (speech, vowel) = (r.bytes(speech)?, r.bytes(vowel)?);
     let samples = repeated(&r.many(stored, i16)?, samples)?;
-    let (refusal, ()) = outcome(entry::recover_by(work, &mut pitch, &samples, speech, vowel));
+    let (refusal, ()) = outcome(entry::recover(&mut pitch, &samples, speech, vowel));
     Some(Writer::new().u8(refusal).each(pitch, Writer::answer))
 }
 
@@ -150,19 +146,12 @@ fn write_region(w: Writer, found: Option<(u32, u32)>) -> Writer {
 }
 
 pub fn nuclei(r: &mut Reader) -> Option<Writer> {
-    nuclei_by(entry::put_nuclei, r)
-}
-
-/// The answer of another function behind the same refusals.
-pub fn nuclei_by(work: entry::Nuclei, r: &mut Reader) -> Option<Writer> {
     let (settings, region) = (settings(r)?, region(r)?);
     let [room, dbs, pitches] = counts(r)?;
     let db = r.many(dbs, Reader::f32)?;
     let pitch = r.many(pitches, Reader::f32)?;
     let mut list = marks(room);
-    let (refusal, count) = outcome(entry::nuclei_by(
-        work, &db, &pitch, settings, region, &mut list,
-    ));
+    let (refusal, count) = outcome(entry::nuclei(&db, &pitch, settings, region, &mut list));
     Some(write_marks(Writer::new().u8(refusal).size(count), &list))
 }
 
@@ -182,23 +171,15 @@ pub fn extras(r: &mut Reader) -> Option<Writer> {
 }
 
 pub fn boundaries_with(r: &mut Reader) -> Option<Writer> {
-    boundaries_by(entry::put_boundaries, r)
-}
-
-/// The answer of another function behind the same refusals.
-pub fn boundaries_by(work: entry::Boundaries, r: &mut Reader) -> Option<Writer> {
     let settings = settings(r)?;
-    boundaries_of(r, Some((work, settings)))
+    boundaries_of(r, Some(settings))
 }
 
 pub fn boundaries(r: &mut Reader) -> Option<Writer> {
     boundaries_of(r, None)
 }
 
-fn boundaries_of(
-    r: &mut Reader,
-    settings: Option<(entry::Boundaries, Settings)>,
-) -> Option<Writer> {
+fn boundaries_of(r: &mut Reader, settings: Option<Settings>) -> Option<Writer> {
     let region = region(r)?;
     let [room, dbs, pitches, voiced, given] = counts(r)?;
     let db = r.many(dbs, Reader::f32)?;
@@ -207,10 +188,7 @@ fn boundaries_of(
     let given = r.many(given, Reader::u32)?;
     let mut list = frames(room);
     let (refusal, count) = outcome(match settings {
-        Some((work, s)) => {
-            let around = (region, given.as_slice());
-            entry::boundaries_by(work, &db, &pitch, &voiced_p, s, around, &mut list)
-        }
+        Some(s) => entry::boundaries_with(&db, &pitch, &voiced_p, s, region, &given, &mut list),
         None => entry::boundaries(&db, &pitch, &voiced_p, region, &given, &mut list),
     });
     Some(write_frames(Writer::new().u8(refusal).size(count), &list))
@@ -262,6 +240,61 @@ pub fn take_file(r: &mut Reader) -> Option<Writer> {
     Some(w)
 }
 
+// Fixed inputs
+
+/// The specification's takes and some small ones, then calls with faults.
+pub fn fixed(kind: u8) -> Vec<Vec<u8>> {
+    let calls = [
+        Call::of(&cases::k1(), (4, 12), &[7]),
+        Call::of(&cases::k2(238.0), (4, 28), &[13, 21]),
+        Call::of(&cases::k2(237.0), (4, 28), &[13]),
+        Call::of(&cases::k8(), (8, 32), &[15]),
+        Call::of(&cases::split_outside(), (0, 5), &[1]),
+        Call::of(&cases::split_outside(), (0, 0), &[2]),
+        Call::of(&cases::one_edge_inside(), (11, 31), &[12, 21]),
+        Call::of(&cases::below_the_chain(), (0, 7), &[]),
+        Call::of(&cases::lost_mark(), (0, 1), &[0]),
+        Call::unpitched(),
+    ];
+    let answered = calls.iter().map(|call| write(kind, call));
+    answered.chain(refused(kind)).collect()
+}
+
+/// The refusal numbers that an entry's tests have.
+fn numbers(kind: u8) -> &'static [u8] {
+    match kind {
+        32 => &[1, 5],
+        35 => &[1, 5, 6, 9],
+        36 => &[1, 3, 4, 10],
+        37 => &[1, 3, 4],
+        40 => &[1, 2, 3, 4, 5, 7, 10],
+        41 => &[1, 2, 3, 4, 5, 6, 7, 8, 10],
+        42 => &[1, 2, 3, 4, 5, 7, 8, 10],
+        43 => &[1, 2, 4, 5, 7, 8, 10],
+        48 => &[1, 2, 3, 4, 5, 6, 9, 10],
+        _ => &[],
+    }
+}
+
+/// Every fault of an entry by itself, and every two together.
+pub fn refused(kind: u8) -> Vec<Vec<u8>> {
+    let of = |faults: &[u8]| {
+        let mut call = Call::of(&cases::k2(238.0), (4, 28), &[13, 21]);
+        for &number in faults {
+            call.spoil(kind, number);
+        }
+        write(kind, &call)
+    };
+    let numbers = numbers(kind);
+    let mut out = Vec::new();
+    for (k, &low) in numbers.iter().enumerate() {
+        out.push(of(&[low]));
+        // The higher first: a list that is too long is made last.
+        out.extend(numbers[k + 1..].iter().map(|&high| of(&[high, low])));
+    }
+    out
+}
+
 // Random inputs
 
 /// Everything that a call can bring.
@@ -279,6 +312,60 @@ struct Call {
     samples: usize,
     /// Of nuclei, extras, edges and boundaries.
     rooms: [usize; 4],
+}
+
+impl Call {
+    /// A take with a region and nuclei, every mark set, lists as long as they must be, a steady
+    /// tone of 200 Hz.
+    fn of(take: &Take, region: (u32, u32), nuclei: &[u32]) -> Call {
+        let n = take.db.len();
+        let wave = |j: usize| [1000, 3000, 1000, -2000, -3000][j / 16] + j as i16;
+        Call {
+            settings: take.settings,
+            region,
+            db: take.db.clone(),
+            pitch: take.pitch.clone(),
+            voiced_p: take.voiced_p.clone(),
+            sonority: take.sonority.clone(),
+            speech: vec![1; n],
+            vowel: vec![1; n],
+            nuclei: nuclei.to_vec(),
+            stored: (0..80).map(wave).collect(),
+            samples: 160 * n,
+            rooms: [n, n, n, n + 1],
+        }
+    }
+
+    /// A loud take with no pitch, all of it to be recovered.
+    fn unpitched() -> Call {
+        let mut take = cases::k1();
+        take.pitch.fill(0.0);
+        Call::of(&take, (4, 12), &[])
+    }
+
+    /// Makes the fault of one refusal number.
+    fn spoil(&mut self, kind: u8, number: u8) {
+        let n = self.db.len();
+        let long = MAX_FRAMES + 1;
+        match (number, kind) {
+            (1, 32) => self.pitch.resize(long, 0.0),
+            (1, 35) => self.speech.resize(long, 0),
+            (1, 36 | 37 | 40) => self.db.resize(long, 0.0),
+            (1, 41..=43) => self.nuclei.resize(long, 0),
+            (1, _) => self.vowel.resize(long, 0),
+            (2, _) => self.pitch.truncate(n - 1),
+            (3, _) => self.settings.dip = -1.0,
+            (4, _) => self.db[n - 1] = 1001.0,
+            (5, _) => self.pitch[n - 2] = -0.0,
+            (6, 35) => self.speech[n - 1] = 2,
+            (6, 41) => self.sonority[n - 1] = 1.5,
+            (6, _) => self.vowel[n - 1] = 2,
+            (7, _) => self.region = (0, n as u32 + 1),
+            (8, _) => self.nuclei = vec![13, 13],
+            (9, _) => self.samples = MAX_SAMPLES + 1,
+            _ => self.rooms = [n - 1, n - 1, n - 1, n],
+        }
+    }
 }
 
 /// A random input for a kind of this file, with `n` frames where that is given.
@@ -643,4 +730,21 @@ fn damaged(r: &mut Random, mut file: Vec<u8>) -> Vec<u8> {
         _ => {}
     }
     file
+}
+
+#[cfg(test)]
+mod tests {
+    use super::*;
+    use crate::kinds::Kind;
+
+    #[test]
+    fn the_lowest_number_is_answered() {
+        for kind in [32, 35, 36, 37, 40, 41, 42, 43, 48] {
+            let answer = |input: &Vec<u8>| Kind::by_number(kind).unwrap().answer(input).unwrap()[0];
+            let answers: Vec<u8> = refused(kind).iter().map(answer).collect();
+            let numbers = numbers(kind);
+            let lowest = (0..numbers.len()).flat_map(|k| vec![numbers[k]; numbers.len() - k]);
+            assert_eq!(answers, lowest.collect::<Vec<u8>>(), "kind {kind}");
+        }
+    }
 }

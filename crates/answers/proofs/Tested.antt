@@ -1,17 +1,11 @@
 -- A pitch that passed its test lies within the range. Assumes nothing.
 use mathlib.Core.Path.{_≡_, sym, _∙_, subst}
 use mathlib.Core.Bool.{Bool, true}
-use mathlib.Core.Logic.{_⊎_}
 use Prim.Native.Nat.{ℕ}
 use lib.Dec.{T}
 use lib.Ieee.{Float, le}
 use lib.Ieee.Fits.{and-l, and-r}
 use Rattle.powers.specs.Pitch.{hz, Between, between}
-use Rattle.runs.specs.Runs.{none}
-
--- +0.0, or a pitch that the repair takes
-abbrev pub Repairable : Float → Type 0
-Repairable p = (p ≡ none) ⊎ Between 40 2000 p
 
 pub passed : (lo hi : ℕ) (x : Float) (r : Bool) → r ≡ between lo hi x → r ≡ true → Between lo hi x
 passed lo hi x r e t =

@@ -26,7 +26,6 @@ pub fn answer(kind: u8, input: &[u8], out: &mut [u8]) -> usize {
         17 | 18 | 19 | 20 => curves::curve(kind, 2, input, out),
         21 => curves::curve(kind, 3, input, out),
         26 | 27 | 28 | 29 | 30 => voices::voice(kind, input, out),
-        32 => pitches::repaired(input, out),
         33 | 34 => pitches::window(kind, input, out),
         _ => 0,
     }

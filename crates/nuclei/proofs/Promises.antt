@@ -205,7 +205,7 @@ module _ (s pitch : List Float) (syllables : List Span) (b : Bounds) (p : Settin
       (candidates-each s pitch b (λ x. pitchNear pitch x ≡ true) (longRuns pitch) (p .dip) onto-pitched Voiced long-voiced top-pitched)
 
 -- ---- the nuclei of a take
-frames-back : (s : List Float) (floor : Float) (fs : List ℕ) → framesOf (map (nucleusAt s floor) fs) ≡ fs
+pub frames-back : (s : List Float) (floor : Float) (fs : List ℕ) → framesOf (map (nucleusAt s floor) fs) ≡ fs
 frames-back s floor [] = refl
 frames-back s floor (f ∷ fs) = ap (λ (l : List ℕ). f ∷ l) (frames-back s floor fs)
 

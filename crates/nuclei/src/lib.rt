@@ -48,7 +48,7 @@ pub fn candidates(
 }
 
 // Writes kept frames and their levels over the floor to the front of the two lists, and returns how many they are.
-fn write_nuclei(
+pub fn write_nuclei(
     s: &[f32],
     floor: f32,
     kept: &[u32],

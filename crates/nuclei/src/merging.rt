@@ -30,7 +30,7 @@ fn one_nucleus(s: &[f32], heads: &[u32], tails: &[u32], p: Settings, prev: u32, 
 }
 
 // The louder of two frames, the earlier on a tie.
-fn louder(s: &[f32], prev: u32, x: u32) -> u32
+pub fn louder(s: &[f32], prev: u32, x: u32) -> u32
     requires { ⌜ (prev < x) × (x < length (now s)) ⌝ }
     ensures { λ r. ⌜ r ≡ louder (now (s .entry)) prev x ⌝ }
 {

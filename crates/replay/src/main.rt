@@ -36,7 +36,7 @@ fn tell(record: u64, kind: u8) {
 // Our answer to the input, against the reference's.
 fn compare(tally: Tally, kind: u8, input: &[u8], answer: &[u8]) -> Tally {
     let mut ours = [0u8; 65536];
-    let n = answers::answer(kind, input, &mut ours);
+    let n = calls::answer(kind, input, &mut ours);
     let records = std::num::wrapping_add_u64(tally.records, 1);
     if is_answer(&ours, n, answer) {
         return Tally {

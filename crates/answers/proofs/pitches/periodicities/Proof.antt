@@ -10,7 +10,7 @@ abbrev Inv-loop : tie.InvT-loop
 Inv-loop input window out₀ k₀ out k = length out ≡ length out₀
 
 abbrev μ-loop : tie.MeasureT-loop
-μ-loop input window out₀ k₀ out k = 200 - k
+μ-loop input window out₀ k₀ out k = 230 - k
 
 read-samples-requires : tie.Need-read-samples-requires Inv-loop μ-loop
 read-samples-requires c κs = search needs

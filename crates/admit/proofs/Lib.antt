@@ -1,0 +1,4 @@
+pub mod Ranges
+pub mod Every
+pub mod Refusing
+pub mod Admitted

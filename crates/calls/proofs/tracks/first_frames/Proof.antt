@@ -1,0 +1,17 @@
+-- `tracks::first_frames` is safe and ends. Assumes nothing.
+use Rattle.calls.proofs.Parts.{part}
+use borrow.Author.Needs.{needs}
+use Rattle.calls.proofs.tracks.first_frames.Statement.{statement}
+use Rattle.calls.proofs.tracks.first_frames.Tie as tie
+
+slice-aggregate-result : tie.Need-slice-aggregate-result
+slice-aggregate-result c = search (part, needs)
+
+returns : tie.Need-returns
+returns c = search needs
+
+returns-2 : tie.Need-returns-2
+returns-2 c = search needs
+
+pub first-frames-spec : {M : Type 1} → statement M
+first-frames-spec = tie.close (tie.spec slice-aggregate-result returns returns-2)

@@ -1,0 +1,64 @@
+-- `tracks::read_track` is safe and ends. Assumes nothing.
+use mathlib.Core.Path.{_≡_}
+use Prim.Native.Nat.{_-_}
+use lib.ListN.{length}
+use borrow.Author.Needs.{needs}
+use Rattle.calls.proofs.tracks.read_track.Statement.{statement}
+use Rattle.calls.proofs.tracks.read_track.Tie as tie
+
+abbrev Inv-loop : tie.InvT-loop
+Inv-loop input from track₀ at₀ i₀ track at i = length track ≡ length track₀
+
+abbrev μ-loop : tie.MeasureT-loop
+μ-loop input from track₀ at₀ i₀ track at i = length track₀ - i
+
+loop-holds : tie.Need-loop-holds Inv-loop μ-loop
+loop-holds c = search needs
+
+word-at-requires : tie.Need-word-at-requires Inv-loop μ-loop
+word-at-requires c κs = search needs
+
+from-bits-requires : tie.Need-from-bits-requires Inv-loop μ-loop
+from-bits-requires c κs = search needs
+
+mul-track : tie.Need-mul-track Inv-loop μ-loop
+mul-track c = search needs
+
+slice-write-track : tie.Need-slice-write-track Inv-loop μ-loop
+slice-write-track c = search needs
+
+after-requires : tie.Need-after-requires Inv-loop μ-loop
+after-requires c κs = search needs
+
+add-i : tie.Need-add-i Inv-loop μ-loop
+add-i c = search needs
+
+loop-less : tie.Need-loop-less Inv-loop μ-loop
+loop-less c = search needs
+
+loop-again : tie.Need-loop-again Inv-loop μ-loop
+loop-again c = search needs
+
+same-length : tie.Need-same-length Inv-loop μ-loop
+same-length c = search needs
+
+returns : tie.Need-returns Inv-loop μ-loop
+returns c = search needs
+
+pub read-track-spec : {M : Type 1} → statement M
+read-track-spec =
+    tie.close
+    (tie.spec
+    Inv-loop
+    μ-loop
+    loop-holds
+    word-at-requires
+    from-bits-requires
+    mul-track
+    slice-write-track
+    after-requires
+    add-i
+    loop-less
+    loop-again
+    same-length
+    returns)

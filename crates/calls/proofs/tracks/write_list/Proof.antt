@@ -1,0 +1,60 @@
+-- `tracks::write_list` is safe and ends. Assumes nothing.
+use mathlib.Core.Path.{_≡_}
+use Prim.Native.Nat.{_-_}
+use lib.ListN.{length}
+use borrow.Author.Needs.{needs}
+use Rattle.calls.proofs.tracks.write_list.Statement.{statement}
+use Rattle.calls.proofs.tracks.write_list.Tie as tie
+
+abbrev Inv-loop : tie.InvT-loop
+Inv-loop list from step out₀ at₀ i₀ out at i = length out ≡ length out₀
+
+abbrev μ-loop : tie.MeasureT-loop
+μ-loop list from step out₀ at₀ i₀ out at i = length list - i
+
+loop-holds : tie.Need-loop-holds Inv-loop μ-loop
+loop-holds c = search needs
+
+mul-put-word-at : tie.Need-mul-put-word-at Inv-loop μ-loop
+mul-put-word-at c = search needs
+
+shared-slice-read-put-word-at : tie.Need-shared-slice-read-put-word-at Inv-loop μ-loop
+shared-slice-read-put-word-at c = search needs
+
+put-word-at-requires : tie.Need-put-word-at-requires Inv-loop μ-loop
+put-word-at-requires c κs = search needs
+
+after-requires : tie.Need-after-requires Inv-loop μ-loop
+after-requires c κs = search needs
+
+add-i : tie.Need-add-i Inv-loop μ-loop
+add-i c = search needs
+
+loop-less : tie.Need-loop-less Inv-loop μ-loop
+loop-less c = search needs
+
+loop-again : tie.Need-loop-again Inv-loop μ-loop
+loop-again c = search needs
+
+same-length : tie.Need-same-length Inv-loop μ-loop
+same-length c = search needs
+
+returns : tie.Need-returns Inv-loop μ-loop
+returns c = search needs
+
+pub write-list-spec : {M : Type 1} → statement M
+write-list-spec =
+    tie.close
+    (tie.spec
+    Inv-loop
+    μ-loop
+    loop-holds
+    mul-put-word-at
+    shared-slice-read-put-word-at
+    put-word-at-requires
+    after-requires
+    add-i
+    loop-less
+    loop-again
+    same-length
+    returns)

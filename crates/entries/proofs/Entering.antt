@@ -1,0 +1,42 @@
+-- By the refusal number: after a refusal every list stays and counts are 0, and an admitted call leaves what its stage does. Assumes nothing.
+use Prim.Native.Nat.{ℕ, zero, suc}
+use native.Mathlib.Omega.{arith}
+use mathlib.Core.Path.{_≡_, refl, sym, ap, _∙_, subst}
+use mathlib.Core.List.{List, []}
+use lib.ListN.{length}
+use Rattle.lists.specs.Results.{Listed, overlay}
+use Rattle.entries.specs.Stages.{ifAdmitted}
+
+module _ {A : Type 0} (number : ℕ) (found instead : A) where
+  pub admitted-is : number ≡ 0 → ifAdmitted number found instead ≡ found
+  unfolding ifAdmitted
+  admitted-is e = rw e
+
+  pub refused-is : (number ≡ 0 → ⊥) → ifAdmitted number found instead ≡ instead
+  unfolding ifAdmitted
+  refused-is n = go number n
+    where
+      go : (k : ℕ) → (k ≡ 0 → ⊥) → ifAdmitted k found instead ≡ instead
+      go zero n = absurd (n refl)
+      go (suc k) n = refl
+
+-- nothing is written
+nothing-listed : {A : Type 0} (old : List A) → Listed [] old old 0
+unfolding overlay
+nothing-listed old = record { count = refl; entries = refl }
+
+module _ {A B : Type 0} (f : List A → List B) {number : ℕ} (l : List A) where
+  -- a list that is read off what a call finds
+  pub lists : {old new : List B} {r : ℕ} → number ≡ 0 → Listed (f l) old new r → Listed (f (ifAdmitted number l [])) old new r
+  lists {old} {new} {r} e h = subst (λ (k : List A). Listed (f k) old new r) (sym (admitted-is number l [] e)) h
+
+  pub leaves : (old : List B) → f [] ≡ [] → (number ≡ 0 → ⊥) → Listed (f (ifAdmitted number l [])) old old 0
+  leaves old e n = subst (λ (k : List B). Listed k old old 0) (sym (ap f (refused-is number l [] n) ∙ e)) (nothing-listed old)
+
+  -- what the contract says of a refused call: the count is 0 and the lent list is as it was
+  pub refused-leaves : {old new : List B} {r : ℕ} → f [] ≡ [] → (number ≡ 0 → ⊥) → Listed (f (ifAdmitted number l [])) old new r → (r ≡ 0) × (new ≡ old)
+  unfolding overlay
+  refused-leaves {old} {new} {r} e n h =
+      let k = ap f (refused-is number l [] n) ∙ e in
+      let g : Listed [] old new r = subst (λ (k : List B). Listed k old new r) k h in
+      (g .count, g .entries)

@@ -1,0 +1,5 @@
+pub mod Unpitched
+pub mod Split
+pub mod Merging
+pub mod Seconds
+pub mod Extra

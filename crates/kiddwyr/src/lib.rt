@@ -1,0 +1,2 @@
+// The product: the entries that a caller has.
+pub mod chain;
