@@ -170,8 +170,19 @@ pub extern "C" fn judge_chain(
 ) -> u32 {
     let p = Settings { margin, dip, gap };
     let m = kiddwyr::chain::chain(
-        db, pitch, voiced, sonority, vowel, samples, p, frames, strengths, xframes, xstrengths,
-        edges, bounds,
+        db,
+        pitch,
+        voiced,
+        sonority,
+        vowel,
+        samples,
+        p,
+        frames,
+        strengths,
+        xframes,
+        xstrengths,
+        edges,
+        bounds,
     );
     m.refusal
 }
