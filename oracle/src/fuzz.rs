@@ -5,6 +5,7 @@ use crate::generate;
 use crate::kinds::{Form, Kind};
 use crate::random::Random;
 use crate::rattle;
+use crate::stages;
 
 /// What came of comparing one kind.
 pub enum Outcome {
@@ -76,6 +77,27 @@ fn both(kind: &Kind, input: &[u8]) -> Option<(Vec<u8>, Vec<u8>)> {
     let reference = kind.answer(input)?;
     Some((reference, rattle::answer(kind.number, input)?))
 }
+
+/// Asks the other side for the chain's answer to takes and to the same times a whole number. How
+/// many were asked and of how many samples changed the answer at all, or the place of a take whose
+/// two answers differ.
+pub fn scaled(count: u64, seed: u64) -> Result<(u64, u64), u64> {
+    let mut recovered = 0;
+    for index in 0..count {
+        let mut random = Random::of(seed, CHAIN, index);
+        let [silent, one, other] = stages::scaled(&mut random);
+        let answer = |input: &[u8]| rattle::answer(CHAIN, input);
+        let first = answer(&one);
+        if first != answer(&other) {
+            return Err(index);
+        }
+        recovered += u64::from(first != answer(&silent));
+    }
+    Ok((count, recovered))
+}
+
+/// The number of the chain's kind.
+const CHAIN: u8 = 48;
 
 /// Cuts items out, half of them at first and then fewer, as long as a difference stays.
 fn smaller(kind: &Kind, mut found: Difference) -> Difference {

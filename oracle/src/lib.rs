@@ -8,6 +8,7 @@ pub mod entry;
 pub mod fuzz;
 pub mod generate;
 pub mod kinds;
+pub mod pipe;
 pub mod random;
 pub mod rattle;
 pub mod replay;

@@ -2,7 +2,7 @@
 
 use judge::fuzz::Outcome;
 use judge::kinds::Kind;
-use judge::{bench, cases, fuzz, rattle, replay, take};
+use judge::{bench, cases, fuzz, pipe, rattle, replay, take};
 use std::io::{self, Read, Write};
 use std::process::ExitCode;
 
@@ -10,9 +10,13 @@ const USAGE: &str = "\
 judge COMMAND
   cases                             the specification's cases on the reference
   marks                             take file on standard input, listing on standard output
-  replay [SEED [KINDS]]             the replay list to standard output (SEED 1, KINDS 1-30)
+  replay [SEED [KINDS]]             the replay list to standard output (SEED 1, KINDS 1-48)
   fuzz KINDS COUNT SEED [FIRST]     fixed inputs and COUNT random ones of each kind, both sides,
                                     from place FIRST (0) of the random sequence on
+  scaled COUNT SEED                 the library's chain on COUNT takes and on each times a whole
+                                    number: the answers must be equal
+  pipe PROGRAM COUNT SEED           a program on COUNT take files through pipes, and on an empty
+                                    one, one of 7 bytes and one of 5 MB: it must print the listing
   bench [WORDS]                     both sides' times, of stages and takes whose line holds WORDS
 KINDS are numbers, ranges of them or names of README.md's table, with commas between, or `all`.
 fuzz and bench compare with the static library where it is linked (feature `rattle`); the script
@@ -21,7 +25,7 @@ Exit status: 0 all as it should be, 1 a case or a comparison failed, 2 bad usage
 
 /// The seed and the kinds of the replay list, where none are named.
 const SEED: u64 = 1;
-const SMALL: &str = "1-30";
+const SMALL: &str = "1-48";
 
 fn main() -> ExitCode {
     let words: Vec<String> = std::env::args().skip(1).collect();
@@ -50,6 +54,10 @@ fn run(words: &[&str]) -> Option<io::Result<bool>> {
         ["replay", seed, kinds] => run_replay(seed.parse().ok()?, kinds)?,
         ["fuzz", kind, count, seed] => run_fuzz(kind, count, seed, "0")?,
         ["fuzz", kind, count, seed, first] => run_fuzz(kind, count, seed, first)?,
+        ["scaled", count, seed] => run_scaled(count.parse().ok()?, seed.parse().ok()?),
+        ["pipe", program, count, seed] => {
+            run_pipe(program, count.parse().ok()?, seed.parse().ok()?)
+        }
         ["bench", only @ ..] => {
             bench::table(&only.join(" "), |line| println!("{line}"));
             Ok(true)
@@ -83,6 +91,28 @@ fn run_cases() -> bool {
 
 fn run_replay(seed: u64, kinds: &str) -> Option<io::Result<bool>> {
     Some(out(&replay::list(seed, &Kind::by_words(kinds)?)))
+}
+
+fn run_scaled(count: u64, seed: u64) -> io::Result<bool> {
+    let found = fuzz::scaled(count, seed);
+    match found {
+        Ok((pairs, recovered)) => {
+            println!("{pairs} takes answered alike times a whole number, {recovered} of them with recovered pitches");
+        }
+        Err(index) => {
+            println!("take {index} of seed {seed} is answered otherwise times a whole number")
+        }
+    }
+    Ok(found.is_ok())
+}
+
+fn run_pipe(program: &str, count: u64, seed: u64) -> io::Result<bool> {
+    let found = pipe::compare(program, count, seed)?;
+    match &found {
+        Ok(files) => println!("{program}: {files} files listed as they should be"),
+        Err(what) => println!("{program}: {what} is listed otherwise"),
+    }
+    Ok(found.is_ok())
 }
 
 fn run_fuzz(kinds: &str, count: &str, seed: &str, first: &str) -> Option<io::Result<bool>> {

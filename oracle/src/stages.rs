@@ -400,6 +400,41 @@ pub fn input(kind: u8, r: &mut Random, n: Option<usize>) -> Vec<u8> {
     write(kind, &call)
 }
 
+/// A call of the chain with silent samples, with sound, and with the sound times a whole number
+/// that leaves it within 16 bits.
+pub fn scaled(r: &mut Random) -> [Vec<u8>; 3] {
+    let n = length(r);
+    let mut call = call(r, n, entry::REPAIRABLE);
+    if r.one_in(8) {
+        fault(r, &mut call);
+    }
+    // Most takes lose their pitches, so that there is something to recover.
+    if !r.one_in(4) {
+        call.pitch.fill(0.0);
+    }
+    let most = call.stored.iter().map(|v| v.unsigned_abs()).max();
+    let largest = i32::from(i16::MAX) / i32::from(most.unwrap_or(1).max(1));
+    // A take at full scale is made smaller first.
+    let divisor = if largest == 0 {
+        2
+    } else {
+        r.pick(&[1, 1, 3, 10])
+    };
+    for v in &mut call.stored {
+        *v /= divisor;
+    }
+    let largest = (largest * i32::from(divisor)).clamp(1, 32_767);
+    let times = (1 + r.below(largest as usize) as i32) * r.pick(&[1, -1]);
+    let sound = call.stored.clone();
+    let mut with = |samples: Vec<i16>| {
+        call.stored = samples;
+        write(48, &call)
+    };
+    let louder = |v: &i16| (i32::from(*v) * times).clamp(-32_768, 32_767) as i16;
+    let multiplied = sound.iter().map(louder).collect();
+    [with(vec![0; sound.len()]), with(sound), with(multiplied)]
+}
+
 fn write(kind: u8, c: &Call) -> Vec<u8> {
     let w = Writer::new();
     let floats = |w: Writer, xs: &[f32]| w.each(xs.iter().copied(), Writer::f32);

@@ -1,7 +1,7 @@
 -- The tests of one value: the constants of the code are the numbers of the definitions, and each test goes by its cases. Assumes nothing.
 use Prim.Native.Nat.{ℕ}
 use mathlib.Core.Path.{_≡_, refl, sym, _∙_, ap, subst}
-use mathlib.Core.Bool.{Bool, true, false, _&&_}
+use mathlib.Core.Bool.{true, false}
 use mathlib.Core.Logic.{_⊎_, inl, inr}
 use borrow.Author.Tests.{eqb-true}
 use lib.Dec.{T}
@@ -11,7 +11,7 @@ use Rattle.floats.specs.Plain.{magnitude}
 use Rattle.floats.specs.Total.{valueOf, placed}
 use Rattle.floats.proofs.Order.{value-back}
 use Rattle.lists.proofs.Tests.{and-cases, or-cases}
-use Rattle.powers.specs.Pitch.{Between, hz}
+use Rattle.powers.specs.Pitch.{Between}
 use Rattle.powers.proofs.UnitLaws.{bound-below, bound-above}
 use Rattle.runs.specs.Runs.{none}
 use Rattle.admit.specs.Values.{number, within, isNone, dbAdmitted, pitchAdmitted}

@@ -30,12 +30,12 @@ abbrev pub inside : ℕ → ℕ → ℕ → Bool
 inside start end n = leb start end && leb end n
 
 -- a region in n frames and then nuclei, before the later tests
-abbrev pub placed : ℕ → ℕ → List ℕ → ℕ → ℕ → ℕ
-placed start end nuclei n later = refuse 7 (inside start end n) (refuse 8 (rising 0 n nuclei) later)
+abbrev pub regionAndNuclei : ℕ → ℕ → List ℕ → ℕ → ℕ → ℕ
+regionAndNuclei start end nuclei n later = refuse 7 (inside start end n) (refuse 8 (rising 0 n nuclei) later)
 
--- as many samples as 2,048 frames have
-abbrev pub audible : ℕ → Bool
-audible samples = leb samples 327680
+-- at most the samples that 2,048 frames have
+abbrev pub fewSamples : ℕ → Bool
+fewSamples samples = leb samples 327680
 
 -- speech marks
 unfoldable pub speechRefusal : List Float → Settings → ℕ → ℕ
@@ -67,7 +67,7 @@ recoveryRefusal pitch samples speech vowel =
     refuse 1 (short (length pitch) && short (length speech) && short (length vowel))
     (refuse 5 (pitched pitch)
     (refuse 6 (allOf markAdmitted speech && allOf markAdmitted vowel)
-    (refuse 9 (audible samples)
+    (refuse 9 (fewSamples samples)
     0)))
 
 -- nuclei, by the lengths of their two lists
@@ -91,7 +91,7 @@ extrasRefusal db pitch sonority start end nuclei p frames strengths edges =
     (refuse 4 (allOf dbAdmitted db)
     (refuse 5 (pitched pitch)
     (refuse 6 (allOf shareAdmitted sonority)
-    (placed start end nuclei (length db)
+    (regionAndNuclei start end nuclei (length db)
     (refuse 10 (leb (length db) frames && leb (length db) strengths && leb (length db) edges)
     0)))))))
 
@@ -102,7 +102,7 @@ boundariesRefusal db pitch voiced start end nuclei bounds =
     (refuse 2 (eqb (length pitch) (length db) && eqb (length voiced) (length db))
     (refuse 4 (allOf dbAdmitted db)
     (refuse 5 (pitched pitch && allOf shareAdmitted voiced)
-    (placed start end nuclei (length db)
+    (regionAndNuclei start end nuclei (length db)
     (refuse 10 (ltb (length db) bounds)
     0)))))
 
@@ -114,7 +114,7 @@ boundariesWithRefusal db pitch voiced start end nuclei p bounds =
     (refuse 3 (settingsAdmitted p)
     (refuse 4 (allOf dbAdmitted db)
     (refuse 5 (pitched pitch && allOf shareAdmitted voiced)
-    (placed start end nuclei (length db)
+    (regionAndNuclei start end nuclei (length db)
     (refuse 10 (ltb (length db) bounds)
     0))))))
 
@@ -127,6 +127,6 @@ chainRefusal db pitch voiced sonority vowel samples p frames strengths xframes x
     (refuse 4 (allOf dbAdmitted db)
     (refuse 5 (repairable pitch && allOf shareAdmitted voiced)
     (refuse 6 (allOf shareAdmitted sonority && allOf markAdmitted vowel)
-    (refuse 9 (audible samples)
+    (refuse 9 (fewSamples samples)
     (refuse 10 (leb (length db) frames && leb (length db) strengths && leb (length db) xframes && leb (length db) xstrengths && leb (length db) edges && ltb (length db) bounds)
     0)))))))

@@ -1,9 +1,7 @@
 -- By the refusal number: after a refusal every list stays and counts are 0, and an admitted call leaves what its stage does. Assumes nothing.
 use Prim.Native.Nat.{ℕ, zero, suc}
-use native.Mathlib.Omega.{arith}
 use mathlib.Core.Path.{_≡_, refl, sym, ap, _∙_, subst}
 use mathlib.Core.List.{List, []}
-use lib.ListN.{length}
 use Rattle.lists.specs.Results.{Listed, overlay}
 use Rattle.entries.specs.Stages.{ifAdmitted}
 

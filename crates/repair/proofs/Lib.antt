@@ -2,6 +2,8 @@ pub mod Known
 pub mod Inserting
 pub mod Places
 pub mod Middles
+pub mod Near
+pub mod Counting
 pub mod Sizes
 pub mod Track
 pub mod Runs

@@ -15,8 +15,8 @@ use Rattle.floats.proofs.Order.{value-back}
 use Rattle.lists.specs.By.{Each, sortBy}
 use Rattle.lists.specs.Sorted.{IsSorted, sorted}
 use Rattle.lists.proofs.Entries.{each-map, each-at, each-of-map}
-use Rattle.lists.proofs.Ordered.{each-sort}
-use Rattle.lists.proofs.Sorting.{sorted-only, sorted-length}
+use Rattle.lists.proofs.Ordered.{each-sort, length-sort}
+use Rattle.lists.proofs.Sorting.{sorted-only}
 use Rattle.lists.proofs.Keys.{sorted-back}
 use Rattle.powers.specs.Pitch.{hz, Between, octaveAt}
 use Rattle.repair.specs.Repair.{shifted, beside}
@@ -45,24 +45,28 @@ sorted-places ks h =
     (each-of-map (λ x. T (fits binary32 x)) valueOf ks (each-map PitchPlace (λ k. T (fits binary32 (valueOf k))) (λ k p. ofBits-fits binary32 (unplaced k)) ks h)))
     ∙ ap (λ (l : List ℕ). map valueOf (sorted l)) (places-back ks h)
 
+-- the values at the sorted places
+module _ (ks : List ℕ) (h : Each PitchPlace ks) where
+  pub sorted-value : (i : ℕ) → getD (sortBy before (map valueOf ks)) i nan ≡ valueOf (getD (sorted ks) i 0)
+  unfolding ofBits
+  sorted-value i = ap (λ (r : List Float). getD r i nan) (sorted-places ks h) ∙ List·getD-map valueOf (sorted ks) i 0
+
+  pub sorted-pitched : (i : ℕ) → i < length ks → PitchPlace (getD (sorted ks) i 0)
+  sorted-pitched i l = each-at PitchPlace (sorted ks) 0 (each-sort leb PitchPlace ks h) i (subst (λ (n : ℕ). i < n) (sym (length-sort leb ks)) l)
+
 pub middle-below : (m : ℕ) → 0 < m → ((m - 1) / 2 < m) × (m / 2 < m)
 middle-below m h = (omega arith, omega arith)
 
 -- ks in order, at the front of a
 module _ (ks a : List ℕ) (m : ℕ) (h : Each PitchPlace ks) (count : m ≡ length ks) (s : IsSorted ks (take m a)) where
+  sorted-at : (i : ℕ) → i < m → getD (sorted ks) i 0 ≡ getD a i 0
+  sorted-at i l = ap (λ (r : List ℕ). getD r i 0) (sym (sorted-only s)) ∙ getD-take m a i 0 l
+
   at-place : (i : ℕ) → i < m → getD (sortBy before (map valueOf ks)) i nan ≡ valueOf (getD a i 0)
-  unfolding ofBits
-  at-place i l =
-      ap (λ (r : List Float). getD r i nan) (sorted-places ks h)
-      ∙ List·getD-map valueOf (sorted ks) i 0
-      ∙ ap (λ (r : List ℕ). valueOf (getD r i 0)) (sym (sorted-only s))
-      ∙ ap valueOf (getD-take m a i 0 l)
+  at-place i l = sorted-value ks h i ∙ ap valueOf (sorted-at i l)
 
   pub place-pitched : (i : ℕ) → i < m → Between 40 2000 (valueOf (getD a i 0))
-  place-pitched i l =
-      let e : getD (sorted ks) i 0 ≡ getD a i 0 = ap (λ (r : List ℕ). getD r i 0) (sym (sorted-only s)) ∙ getD-take m a i 0 l in
-      let n : i < length (sorted ks) = omega (arith, ap length (sorted-only s), sorted-length s) in
-      subst (λ (k : ℕ). Between 40 2000 (valueOf k)) e (each-at PitchPlace (sorted ks) 0 (each-sort leb PitchPlace ks h) i n .1)
+  place-pitched i l = subst (λ (k : ℕ). Between 40 2000 (valueOf k)) (sorted-at i l) (sorted-pitched ks h i (omega (arith, count)) .1)
 
   pub beside-places : (f : Float) → 0 < m → beside f (map valueOf ks) ≡ shifted (octaveAt f (valueOf (getD a ((m - 1) / 2) 0)) (valueOf (getD a (m / 2) 0))) f
   unfolding beside

@@ -1,5 +1,5 @@
 -- The neighbours of a frame are found by its place in the run, which rises strictly (`neighbours-at`): they are two parts of the run, and these two in order are
--- the neighbours in order (`around-sorted`). Assumes nothing.
+-- the neighbours in order (`around-sorted`). As many of these two pass a test as of the neighbours (`around-count`). Assumes nothing.
 use Prim.Native.Nat.{ℕ, zero, suc, _+_, _-_, _≤_, _<_, min}
 use native.Mathlib.Nat.{zero-add, sub-zero}
 use native.Mathlib.Numerals.{add-one}
@@ -7,18 +7,18 @@ use native.Mathlib.Omega.{arith}
 use mathlib.Core.Path.{_≡_, refl, sym, ap, ap₂, _∙_, subst}
 use mathlib.Core.Bool.{Bool, true, false}
 use mathlib.Core.List.{List, [], _∷_, _++_}
-use lib.Dec.{leb, ltb}
+use lib.Dec.{leb, ltb, eqb}
 use lib.ListN.{length, getD, take, drop, length-append, length-drop}
 use lib.Seq.{length-take-le, take-all, take-nil}
 use borrow.Author.Tests.{lt-ltb, le-ltb, leb-true, leb-false}
 use Rattle.lists.specs.Results.{filter}
-use Rattle.lists.specs.By.{Each}
+use Rattle.lists.specs.By.{Each, countIf}
 use Rattle.lists.specs.Sorted.{count, IsSorted, StrictlyRises}
 use Rattle.lists.proofs.Entries.{each-map, each-append, each-at}
 use Rattle.lists.proofs.Members.{strict-each}
-use Rattle.lists.proofs.Sorting.{count-append}
 use Rattle.repair.specs.Repair.{lastOf, neighbours}
 use Rattle.repair.specs.Places.{around}
+use Rattle.repair.proofs.Counting.{count-append}
 
 -- all or none of a list passes
 module _ {A : Type 0} (p : A → Bool) where
@@ -88,7 +88,7 @@ drop-take (suc i) (suc n) (x ∷ l) h =
 sorted-again : {l s r : List ℕ} (t : List ℕ) → IsSorted l s → IsSorted (s ++ t) r → IsSorted (l ++ t) r
 sorted-again {l} {s} {r} t p q = record {
   rises = q .rises;
-  same = λ x. q .same x ∙ count-append x s t ∙ ap (λ (k : ℕ). k + count x t) (p .same x) ∙ sym (count-append x l t);
+  same = λ x. q .same x ∙ count-append (λ y. eqb y x) s t ∙ ap (λ (k : ℕ). k + count x t) (p .same x) ∙ sym (count-append (λ y. eqb y x) l t);
 }
 
 -- ---- the neighbours of a place as two parts of the run, from `from` to p and from p + 1 to `end`
@@ -133,3 +133,6 @@ module _ (keys : List ℕ) (p from end : ℕ) (h : p < length keys) (f : from �
 
   pub around-length : length (around keys p) ≡ end - from - 1
   around-length = ap₂ (λ (x y : List ℕ). length (x ++ y)) (sym front-is) (sym back-is) ∙ length-append front back ∙ omega (arith, front-length, back-length)
+
+  pub around-count : (t : ℕ → Bool) → countIf t (around keys p) ≡ countIf t front + countIf t back
+  around-count t = ap₂ (λ (x y : List ℕ). countIf t (x ++ y)) (sym front-is) (sym back-is) ∙ count-append t front back

@@ -3,7 +3,7 @@
 use Prim.Native.Nat.{ℕ, zero, suc, _+_, _-_, _≤_, _<_}
 use native.Mathlib.Nat.{zero-add, add-zero}
 use native.Mathlib.Omega.{arith}
-use mathlib.Core.Path.{_≡_, refl, sym, ap, _∙_}
+use mathlib.Core.Path.{_≡_, refl, sym, ap, _∙_, subst}
 use mathlib.Core.Bool.{true, false, true≢false}
 use mathlib.Core.List.{List, [], _∷_, map}
 use mathlib.Core.Logic.{_⊎_, ⊎-elim}
@@ -16,12 +16,12 @@ use Rattle.lists.specs.Sorted.{StrictlyRises}
 use Rattle.lists.proofs.Entries.{each-map, each-at}
 use Rattle.lists.proofs.Members.{each-keep, keep-rises, strict-from}
 use Rattle.powers.specs.Pitch.{Between}
-use Rattle.runs.specs.Runs.{none, voiced, Span, spans, longRuns, Spaced}
+use Rattle.runs.specs.Runs.{none, voiced, voicedFrames, Span, spans, longRuns, Spaced}
 use Rattle.runs.proofs.Spacing.{long-spaced}
 use Rattle.runs.proofs.Spans.{runAt, spansFrom, spans-step, spans-over}
 use Rattle.repair.specs.Repair.{Pitches, pitchAt, framesIn, repairedAmong, repaired}
 use Rattle.repair.specs.Places.{keyAt, Gathered, LongIn, RunWritten}
-use Rattle.repair.proofs.Sizes.{long-run-frames}
+use Rattle.repair.proofs.Sizes.{keep-part, long-run-frames}
 
 -- ---- a run
 module _ (lo hi : ℕ) (pitch : List Float) (a : Pitches lo hi pitch) where
@@ -100,3 +100,15 @@ repaired-at pitch i h = every-at (repairedAmong pitch (longRuns pitch)) nan 0 (l
 
 pub whole : (pitch track : List Float) → length track ≡ length pitch → ((i : ℕ) → getD track i nan ≡ repairedAmong pitch (longRuns pitch) i) → track ≡ repaired pitch
 whole pitch track e w = ext-getD nan track (repaired pitch) (e ∙ sym (length-repaired pitch)) (λ i h. w i ∙ sym (repaired-at pitch i (omega arith)))
+
+-- with fewer than 5 voiced frames there is no long run
+pub few-stay : (pitch : List Float) → length (voicedFrames pitch) < 5 → pitch ≡ repaired pitch
+unfolding voicedFrames framesIn repairedAmong
+few-stay pitch h = whole pitch pitch refl (λ i. ap (λ (rs : List Span). repairedAmong pitch rs i) (sym (none-long (longRuns pitch) (long-runs-long pitch refl refl))))
+  where
+    none-long : (rs : List Span) → Each (LongIn pitch) rs → rs ≡ []
+    none-long [] e = refl
+    none-long (r ∷ rs) e =
+        let l = e .0 in
+        let k = keep-part (voiced pitch) 0 (r .first) (r .last + 1 - r .first) (length pitch) (omega (arith, l .order, l .within)) in
+        absurd (omega (arith, h, l .frames, subst (λ (f : ℕ). length (keep (voiced pitch) f (r .last + 1 - r .first)) ≤ length (keep (voiced pitch) 0 (length pitch))) (zero-add (r .first)) k))

@@ -5,7 +5,7 @@ use native.Mathlib.Omega.{arith}
 use mathlib.Core.Path.{_≡_, refl, sym, ap, ap₂, _∙_}
 use mathlib.Core.Bool.{Bool, true, false, cond}
 use mathlib.Core.List.{List, [], _∷_, _++_, map}
-use lib.ListN.{length}
+use lib.ListN.{length, length-append}
 use lib.Ieee.{Float}
 use borrow.Author.Tests.{leb-true}
 use Rattle.lists.specs.Results.{consIf, filter, keep}
@@ -36,6 +36,13 @@ module _ (t : ℕ → Bool) where
   keep-first : (i k : ℕ) → t i ≡ true → keep t i (suc k) ≡ i ∷ keep t (suc i) k
   unfolding keep
   keep-first i k e = rw e
+
+  -- a part of the frames from i on has no more that pass
+  pub keep-part : (i a b k : ℕ) → a + b ≤ k → length (keep t (i + a) b) ≤ length (keep t i k)
+  keep-part i a b k h =
+      let e : k ≡ a + (b + (k - a - b)) = omega (arith, h) in
+      let l = ap (λ (n : ℕ). length (keep t i n)) e ∙ ap length (keep-split i a (b + (k - a - b)) ∙ ap (λ (r : List ℕ). keep t i a ++ r) (keep-split (i + a) b (k - a - b))) in
+      omega (arith, l, length-append (keep t i a) (keep t (i + a) b ++ keep t (i + a + b) (k - a - b)), length-append (keep t (i + a) b) (keep t (i + a + b) (k - a - b)))
 
   -- ---- the runs that the frames from i on make
   abbrev Sized : Run → Type 0

@@ -79,6 +79,14 @@ module _ (pitch : List Float) (frames keys : List ℕ) (g : Gathered pitch frame
     back : (i : ℕ) → valueOf (keyAt pitch i) ≡ pitchAt pitch i
     back i = value-back (pitchAt pitch i) (fit i)
 
+    pub key-value : (p : ℕ) → p < length frames → pitchAt pitch (getD frames p 0) ≡ valueOf (getD keys p 0)
+    key-value p h = sym (ap (λ (l : List ℕ). valueOf (getD l p 0)) (g .places) ∙ ap valueOf (map-at p frames h) ∙ back (getD frames p 0))
+      where
+        map-at : (p : ℕ) (l : List ℕ) → p < length l → getD (map (keyAt pitch) l) p 0 ≡ keyAt pitch (getD l p 0)
+        map-at p [] h = absurd (omega arith)
+        map-at zero (x ∷ l) h = refl
+        map-at (suc p) (x ∷ l) h = map-at p l (omega arith)
+
     pub keys-placed : Each PitchPlace keys
     keys-placed =
         subst (Each PitchPlace) (sym (g .places))

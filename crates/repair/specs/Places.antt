@@ -1,8 +1,9 @@
 -- The frames of a run by their places in it, their pitches by their places in the total order, and what is written to a track. Definitions only.
-use Prim.Native.Nat.{ℕ, _+_, _≤_, _<_}
+use Prim.Native.Nat.{ℕ, _+_, _-_, _≤_, _<_}
 use mathlib.Core.Path.{_≡_}
-use mathlib.Core.Bool.{cond}
+use mathlib.Core.Bool.{Bool, cond}
 use mathlib.Core.List.{List, _++_, map}
+use lib.Dec.{ltb}
 use lib.ListN.{length, getD, take, drop}
 use lib.Ieee.{Float, nan}
 use Rattle.floats.specs.Total.{totalKey, valueOf}
@@ -20,6 +21,10 @@ around run p = lastOf 5 (take p run) ++ take 5 (drop (p + 1) run)
 -- k is the place of a pitch from 40 to 2,000 Hz in the total order
 abbrev pub PitchPlace : ℕ → Type 0
 PitchPlace k = (totalKey (valueOf k) ≡ k) × Between 40 2000 (valueOf k)
+
+-- x is far from place k: more than half the places of an octave away
+abbrev pub far : ℕ → ℕ → Bool
+far k x = ltb 4194304 (x - k + (k - x))
 
 -- the place of the pitch of frame i
 abbrev pub keyAt : List Float → ℕ → ℕ

@@ -5,14 +5,15 @@ use native.Mathlib.Nat.{eq-or-lt-of-le}
 use native.Mathlib.Numerals.{add-one}
 use native.Mathlib.Omega.{arith}
 use mathlib.Core.Path.{_≡_, refl, sym, ap, ap₂, _∙_}
-use mathlib.Core.Bool.{Bool, true, false, _&&_, cond}
+use mathlib.Core.Bool.{Bool, true, false, _&&_, _||_, cond, true≢false}
 use mathlib.Core.List.{List, [], _∷_}
 use mathlib.Core.Logic.{⊎-elim}
-use borrow.Author.Tests.{not-true, not-false, leb-true, ltb-true, eq-eqb, ne-eqb}
+use borrow.Author.Tests.{not-true, not-false, leb-true, leb-false, lt-leb, ltb-true, ltb-false, eq-eqb, ne-eqb}
+use lib.Bits.{bitOr, or-add-and, and-le-l, and-le-r}
 use lib.Dec.{leb, ltb}
 use lib.ListN.{length}
 use lib.Ieee.{Float, eq, ne}
-use Rattle.lists.specs.Results.{Listed, Pushed, keep, consIf}
+use Rattle.lists.specs.Results.{Listed, Pushed, keep, consIf, moreIf}
 use Rattle.lists.specs.By.{Each}
 use Rattle.lists.specs.Sorted.{StrictlyRises}
 use Rattle.lists.proofs.Tests.{and-cases}
@@ -40,12 +41,16 @@ module _ (t : ℕ → Bool) (n : ℕ) where
       ∙ ap (consIf (t m) m) (keep-skip (j - m) (m + 1) (j + 1) (omega arith) (omega arith) (λ x p q. f x (omega arith) (omega arith) (λ e. omega arith)))
 
 -- ---- a flat stretch
--- frames i to j are alike, each to the next, and the one before i is not
+-- frames i to j are alike, each to the next
+abbrev pub Alike : List Float → ℕ → ℕ → Type 0
+Alike s i j = (k : ℕ) → i ≤ k → k < j → eq (at s (k + 1)) (at s k) ≡ true
+
+-- so they are, and the one before i is not
 pub record Stretch (s : List Float) (i j : ℕ) : Type 0 where
   pub order : i ≤ j
   pub within : j < length s
   pub start : flatFirst s i ≡ i
-  pub alike : (k : ℕ) → i ≤ k → k < j → eq (at s (k + 1)) (at s k) ≡ true
+  pub alike : Alike s i j
 
 -- the stretch ends at j
 abbrev pub Ends : List Float → ℕ → Type 0
@@ -85,6 +90,52 @@ module _ (s : List Float) where
       let p : eq (at s (k + 1)) (at s k) ≡ true = f k (omega arith) (omega arith) in
       last-step k n (omega arith) ∙ rw p (knows-last d (k + 1) j n (omega arith) l h (λ m a b. f m (omega arith) b))
 
+-- ---- how far a stretch goes on
+module _ (s : List Float) where
+  pub alike-none : (i : ℕ) → Alike s i i
+  alike-none i k p q = absurd (omega arith)
+
+  pub alike-join : (i j l : ℕ) → Alike s i j → Alike s j l → Alike s i l
+  alike-join i j l f g k p q = go (ltb k j) refl
+    where
+      go : (b : Bool) → ltb k j ≡ b → eq (at s (k + 1)) (at s k) ≡ true
+      go true e = f k p (ltb-true k j e)
+      go false e = g k (ltb-false k j e) q
+
+  pub alike-more : (i j : ℕ) → Alike s i j → ne (at s (j + 1)) (at s j) ≡ false → Alike s i (j + 1)
+  unfolding ne
+  alike-more i j f e = alike-join i j (j + 1) f (λ k p q. let d : k ≡ j = omega arith in rw d (not-false _ e))
+
+  -- what the definition says of where a stretch ends, at most at b
+  pub alike-end : (i j b : ℕ) → i ≤ j → j ≤ b → Alike s i j → (j < b → ne (at s (j + 1)) (at s j) ≡ true) → j ≡ flatLast s i (b - i)
+  unfolding ne
+  alike-end i j b p q f e = sym (knows-last s (j - i) i j b (omega arith) q (λ h. not-true _ (e h)) f)
+
+  pub alike-last : (i j : ℕ) → i ≤ j → Alike s i j → flatLast s i (j - i) ≡ j
+  alike-last i j h f = sym (alike-end i j j h (omega arith) f (λ l. absurd (omega arith)))
+
+  -- up to there frames are alike
+  pub last-alike : (k i j : ℕ) → j ≡ flatLast s i k → Alike s i j
+  unfolding flatLast
+  last-alike zero i j e = λ m p q. absurd (omega arith)
+  last-alike (suc k) i j e = go (eq (at s (i + 1)) (at s i)) refl e (last-alike k (i + 1) j)
+    where
+      go : (b : Bool) → eq (at s (i + 1)) (at s i) ≡ b → j ≡ cond b (flatLast s (i + 1) k) i → (j ≡ flatLast s (i + 1) k → Alike s (i + 1) j) → Alike s i j
+      go true q e later = alike-join i (i + 1) j (λ m p r. let c : m ≡ i = omega arith in rw c q) (later e)
+      go false q e later = λ m p r. absurd (omega arith)
+
+  -- a call says whether a step is a change
+  no-change : (b : Bool) {r : ℕ} → r ≡ moreIf b 0 → r ≡ 0 → b ≡ false
+  no-change true e z = absurd (omega (arith, e, z))
+  no-change false e z = refl
+
+  -- a: whether there is a change from i to k
+  pub change-more : (i k a : ℕ) {r : ℕ} → r ≡ moreIf (ne (at s (k + 1)) (at s k)) 0 → (a ≡ 0 → Alike s i k) → bitOr a r ≡ 0 → Alike s i (k + 1)
+  change-more i k a {r} e f z =
+      let p : a ≡ 0 = omega (arith, z, or-add-and a r, and-le-r a r) in
+      let q : r ≡ 0 = omega (arith, z, or-add-and a r, and-le-l a r) in
+      alike-more i k (f p) (no-change (ne (at s (k + 1)) (at s k)) e q)
+
 -- ---- the extrema of a stretch
 module _ (s : List Float) (lo hi : ℕ) (kind : Extremum) where
   -- frame i is listed
@@ -117,59 +168,65 @@ module _ (s : List Float) (lo hi : ℕ) (kind : Extremum) where
   -- ---- the walk: the stretch i to j goes on, and what is left to list begins at i
   module _ (out₀ : List ℕ) where
     pub record Scan (out : List ℕ) (n i j : ℕ) : Type 0 where
-      pub stretch : Stretch s i j
+      pub stretch : j < length s → Stretch s i j
+      pub over : length s ≤ j → length s ≤ i
       pub todo : Filling (localExtrema s lo hi kind) (keep listed i (length s - i)) out₀ out n
 
-    pub scan-none : length s ≡ 0 → Listed (localExtrema s lo hi kind) out₀ out₀ 0
-    unfolding localExtrema keep
-    scan-none h = rw h (fill-end (fill-start [] out₀ (omega arith)))
-
-    pub scan-start : (length s ≡ 0 → ⊥) → length s ≤ length out₀ → Scan out₀ 0 0 0
+    pub scan-start : length s ≤ length out₀ → Scan out₀ 0 0 0
     unfolding localExtrema flatFirst
-    scan-start h l =
+    scan-start l =
         let e : length s - 0 ≡ length s = omega arith in
         record {
-          stretch = record { order = omega arith; within = omega (arith, h); start = refl; alike = λ k p q. absurd (omega arith) };
+          stretch = λ h. record { order = omega arith; within = h; start = refl; alike = alike-none s 0 };
+          over = λ h. h;
           todo = rw e (fill-start _ _ (omega (arith, keep-fits listed 0 (length s))));
         }
 
     module _ {out : List ℕ} {n i j : ℕ} (c : Scan out n i j) where
-      pub scan-same : j + 1 < length s → ne (at s (j + 1)) (at s j) ≡ false → Scan out n i (j + 1)
-      unfolding ne
-      scan-same h e =
-          let q : eq (at s (j + 1)) (at s j) ≡ true = not-false _ e in
-          record {
-            stretch =
-                record {
-                  order = omega (arith, c .stretch .order);
-                  within = h;
-                  start = c .stretch .start;
-                  alike = λ k a b.
-                      let d : k ≤ j = omega arith in
-                      ⊎-elim (λ f. rw f q) (λ f. c .stretch .alike k a f) (eq-or-lt-of-le d);
-                };
-            todo = c .todo;
-          }
+      pub scan-end : length s ≤ j → Listed (localExtrema s lo hi kind) out₀ out n
+      scan-end h = fill-end (rw (keep-over listed i (length s) (c .over h)) at (c .todo))
 
-      pub scan-cut : j + 1 < length s → ne (at s (j + 1)) (at s j) ≡ true → {out' : List ℕ} {n' : ℕ} →
-          Pushed (offered kind s lo hi i j) (middle i j) n out out' n' → Scan out' n' (j + 1) (j + 1)
-      unfolding ne
-      scan-cut h e p =
-          let q : eq (at s (j + 1)) (at s j) ≡ false = not-true _ e in
-          record {
-            stretch = record { order = omega arith; within = h; start = first-step s j ∙ rw q; alike = λ k a b. absurd (omega arith) };
-            todo = fill-pushed _ _ (rw (stretch-cut (c .stretch) (λ l. q)) at (c .todo)) p;
-          }
+      module _ (h : j < length s) {b : Bool} (e : b ≡ (leb (length s) (j + 1) || ne (at s (j + 1)) (at s j))) where
+        ends : b ≡ true → Ends s j
+        unfolding ne
+        ends t l =
+            let x : leb (length s) (j + 1) ≡ false = lt-leb (length s) (j + 1) l in
+            not-true _ (rw x at (sym e ∙ t))
 
-      pub scan-room : j + 1 < length s → ne (at s (j + 1)) (at s j) ≡ true → offered kind s lo hi i j ≡ true → n < length out
-      unfolding ne
-      scan-room h e w = fill-fitsIf _ _ _ w (rw (stretch-cut (c .stretch) (λ l. not-true _ e)) at (c .todo))
+        goes : b ≡ false → (j + 1 < length s) × (ne (at s (j + 1)) (at s j) ≡ false)
+        goes t = go (leb (length s) (j + 1)) refl (sym e ∙ t)
+          where
+            go : (a : Bool) → leb (length s) (j + 1) ≡ a → (a || ne (at s (j + 1)) (at s j)) ≡ false → (j + 1 < length s) × (ne (at s (j + 1)) (at s j) ≡ false)
+            go true x y = absurd (true≢false y)
+            go false x y = (leb-false (length s) (j + 1) x, y)
 
-      pub end-room : length s ≤ j + 1 → offered kind s lo hi i j ≡ true → n < length out
-      end-room h w = fill-fitsIf _ _ _ w (rw (stretch-cut (c .stretch) (λ l. absurd (omega arith))) at (c .todo))
+        pub scan-room : b ≡ true → offered kind s lo hi i j ≡ true → n < length out
+        scan-room t w = fill-fitsIf _ _ _ w (rw (stretch-cut (c .stretch h) (ends t)) at (c .todo))
 
-      pub scan-end : length s ≤ j + 1 → {out' : List ℕ} {r : ℕ} → Pushed (offered kind s lo hi i j) (middle i j) n out out' r → Listed (localExtrema s lo hi kind) out₀ out' r
-      scan-end h p = fill-end (rw (keep-over listed (j + 1) (length s) h) at (fill-pushed _ _ (rw (stretch-cut (c .stretch) (λ l. absurd (omega arith))) at (c .todo)) p))
+        pub scan-cut : b ≡ true → {out' : List ℕ} {n' : ℕ} → Pushed (offered kind s lo hi i j) (middle i j) n out out' n' → Scan out' n' (j + 1) (j + 1)
+        scan-cut t p = record {
+          stretch = λ l. record { order = omega arith; within = l; start = first-step s j ∙ rw (ends t l); alike = alike-none s (j + 1) };
+          over = λ l. l;
+          todo = fill-pushed _ _ (rw (stretch-cut (c .stretch h) (ends t)) at (c .todo)) p;
+        }
+
+        pub scan-on : b ≡ false → (r : ℕ) → (r ≡ flatLast s (j + 1) (length s - 1 - (j + 1))) × ((j + 1 ≤ r) × (r ≤ length s - 1)) → Scan out n i r
+        scan-on t r f =
+            let g = goes t in
+            let o = c .stretch h in
+            record {
+              stretch = λ l. record {
+                order = omega (arith, o .order, f .1 .0);
+                within = l;
+                start = o .start;
+                alike = alike-join s i (j + 1) r (alike-more s i j (o .alike) (g .1)) (last-alike s (length s - 1 - (j + 1)) (j + 1) r (f .0));
+              };
+              over = λ l. absurd (omega (arith, l, f .1 .1, h));
+              todo = c .todo;
+            }
+
+        pub next-within : b ≡ false → j + 1 < length s
+        next-within t = goes t .0
 
 -- ---- what is listed
 each-keep : (P : ℕ → Type 0) (t : ℕ → Bool) → ((j : ℕ) → t j ≡ true → P j) → (i k : ℕ) → Each P (keep t i k)

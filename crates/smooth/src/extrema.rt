@@ -1,11 +1,13 @@
 // Local extrema of a track, the extremum of a part of it, and valleys between peaks.
 ghost use mathlib.Core.Path.{_≡_};
-ghost use mathlib.Core.Bool.{true, _&&_};
+ghost use mathlib.Core.Bool.{true, _&&_, _||_};
 ghost use Prim.Native.Nat.{_+_, _-_, _<_, _≤_};
 ghost use lib.ListN.{length};
 ghost use lib.Seq.{slice};
-ghost use Rattle.lists.specs.Results.{Listed, Pushed};
-ghost use Rattle.smooth.specs.Extrema.{beyond, unreached, further, furthest, leftClear, rightClear, middle, localExtrema, firstBest, flatLast, extremumMiddle, argminMiddle, argmaxMiddle, offered, shallow};
+ghost use lib.Dec.{leb};
+ghost use lib.Ieee.{ne};
+ghost use Rattle.lists.specs.Results.{Listed, Pushed, moreIf};
+ghost use Rattle.smooth.specs.Extrema.{at, beyond, unreached, further, furthest, leftClear, rightClear, middle, localExtrema, firstBest, flatLast, extremumMiddle, argminMiddle, argmaxMiddle, offered, shallow};
 
 pub enum Extremum {
     Max,
@@ -92,26 +94,93 @@ fn offer(
     n
 }
 
+// How many steps from a frame to the next make a block.
+const BLOCK: usize = 16;
+
+// 1 where the value changes from frame k to the next, else 0.
+fn one_change(s: &[f32], k: usize) -> u32
+    requires { ⌜ k + 1 < length (now s) ⌝ }
+    ensures { λ r. ⌜ r ≡ moreIf (ne (at (now (s .entry)) (k + 1)) (at (now (s .entry)) k)) 0 ⌝ }
+{
+    if s[k + 1] != s[k] { 1 } else { 0 }
+}
+
+// 0 where the value never changes in the block of steps from frame j on. All of them are looked at together, which is quick on a long flat stretch.
+fn changes(s: &[f32], j: usize) -> u32
+    requires { ⌜ j + 16 < length (now s) ⌝ }
+    ensures { λ r. ⌜ (r ≡ 0 → flatLast (now (s .entry)) j 16 ≡ j + 16) ⌝ }
+{
+    let end = j + BLOCK;
+    let mut any = 0u32;
+    let mut k = j;
+    while k < end {
+        any = any | one_change(s, k);
+        k += 1;
+    }
+    any
+}
+
+// A frame of the flat stretch from i on, as far as b: where the whole blocks of it end.
+fn flat_blocks(s: &[f32], i: usize, b: usize) -> usize
+    requires { ⌜ (i ≤ b) × (b < length (now s)) ⌝ }
+    ensures { λ r. ⌜ (i ≤ r) × (r ≤ b) × (flatLast (now (s .entry)) i (r - i) ≡ r) ⌝ }
+{
+    let mut last = i;
+    while BLOCK <= b - last {
+        if changes(s, last) != 0 {
+            return last;
+        }
+        last += BLOCK;
+    }
+    last
+}
+
+// The last frame of the flat stretch from i on, as far as b.
+fn flat_last(s: &[f32], i: usize, b: usize) -> usize
+    requires { ⌜ (i ≤ b) × (b < length (now s)) ⌝ }
+    ensures { λ r. ⌜ (r ≡ flatLast (now (s .entry)) i (b - i)) × ((i ≤ r) × (r ≤ b)) ⌝ }
+{
+    let mut last = flat_blocks(s, i, b);
+    while last < b {
+        if s[last + 1] != s[last] {
+            return last;
+        }
+        last += 1;
+    }
+    last
+}
+
+// Whether a flat stretch ends at frame j: so at the end of the track.
+fn ends_at(s: &[f32], j: usize) -> bool
+    requires { ⌜ j < length (now s) ⌝ }
+    ensures { λ r. ⌜ r ≡ (leb (length (now (s .entry))) (j + 1) || ne (at (now (s .entry)) (j + 1)) (at (now (s .entry)) j)) ⌝ }
+{
+    if s.len() <= j + 1 {
+        true
+    } else {
+        s[j + 1] != s[j]
+    }
+}
+
 // Writes the frames in lo..hi where s has a strict local extremum, in order, and returns how many they are.
 // A flat one counts once, at its middle; where it has no neighbour, at either end of s, that side is no matter.
 pub fn local_extrema(s: &[f32], lo: usize, hi: usize, kind: Extremum, out: &mut [u32]) -> usize
     requires { ⌜ (length (now s) ≤ length (now out)) × (length (now s) ≤ 2048) ⌝ }
     ensures { λ r. ⌜ Listed (localExtrema (now (s .entry)) lo hi kind) (now (out .entry)) (now (out .exit)) r ⌝ }
 {
-    if s.len() == 0 {
-        return 0;
-    }
     let mut n: usize = 0;
     let mut i: usize = 0;
     let mut j: usize = 0;
-    while j + 1 < s.len() {
-        if s[j + 1] != s[j] {
+    while j < s.len() {
+        if ends_at(s, j) {
             n = offer(s, lo, hi, kind, i, j, out, n);
-            i = j + 1;
+            j += 1;
+            i = j;
+        } else {
+            j = flat_last(s, j + 1, s.len() - 1);
         }
-        j += 1;
     }
-    offer(s, lo, hi, kind, i, j, out, n)
+    n
 }
 
 // x if it is beyond m, else m.
@@ -159,21 +228,6 @@ fn first_best(s: &[f32], a: usize, b: usize, kind: Extremum) -> usize
         i += 1;
     }
     i
-}
-
-// The last frame of the flat stretch from i on, as far as b.
-fn flat_last(s: &[f32], i: usize, b: usize) -> usize
-    requires { ⌜ (i ≤ b) × (b < length (now s)) ⌝ }
-    ensures { λ r. ⌜ (r ≡ flatLast (now (s .entry)) i (b - i)) × ((i ≤ r) × (r ≤ b)) ⌝ }
-{
-    let mut last = i;
-    while last < b {
-        if s[last + 1] != s[last] {
-            return last;
-        }
-        last += 1;
-    }
-    last
 }
 
 // The frame in a..=b with the extremum of s there; of a flat one the middle of its first stretch in a..=b.

@@ -1,8 +1,6 @@
 -- `stages::region` meets its contract. Assumes nothing.
 use borrow.Author.Needs.{needs}
-use mathlib.Core.Path.{sym, ap, ap₂, _∙_}
-use Prim.Native.Nat.{ℕ}
-use Rattle.region.specs.declared.Region.{Region}
+use mathlib.Core.Path.{sym, ap₂, _∙_}
 use Rattle.admit.proofs.Admitted.{region-admitted}
 use Rattle.entries.specs.Stages.{regionEntry, spanned}
 use Rattle.entries.proofs.Entering.{admitted-is, refused-is}

@@ -1,12 +1,10 @@
 -- `smooth::extrema::local_extrema` meets its contract. The flat stretch i to j goes on, and the extrema before it are written. Assumes nothing.
-use Prim.Native.Nat.{_-_}
+use Prim.Native.Nat.{_+_, _-_, _<_}
 use native.Mathlib.Omega.{arith}
-use mathlib.Core.Path.{_∙_}
-use mathlib.Core.Logic.{⊎-elim}
-use borrow.Author.Needs.{needs}
 use lib.ListN.{length}
 use Rattle.lists.proofs.Fill.{fill-length}
-use Rattle.smooth.proofs.Stretches.{Scan, scan-none, scan-start, scan-same, scan-cut, scan-room, end-room, scan-end}
+use Rattle.smooth.proofs.Stretches.{Scan, scan-start, next-within, scan-on, scan-cut, scan-room, scan-end}
+use borrow.Author.Needs.{needs}
 use Rattle.smooth.proofs.extrema.local_extrema.Statement.{statement}
 use Rattle.smooth.proofs.extrema.local_extrema.Tie as tie
 
@@ -16,37 +14,17 @@ Inv-loop s lo hi kind out₀ n₀ i₀ j₀ out n i j = Scan s lo hi kind out₀
 abbrev μ-loop : tie.MeasureT-loop
 μ-loop s lo hi kind out₀ n₀ i₀ j₀ out n i j = length s - j
 
-returns : tie.Need-returns Inv-loop μ-loop
-returns c = scan-none _ _ _ _ _ (c .if1 .taken)
-
 loop-holds : tie.Need-loop-holds Inv-loop μ-loop
-loop-holds c = scan-start _ _ _ _ _ (c .if1 .left) (omega arith)
+loop-holds c = scan-start _ _ _ _ _ (c .before .before .pre .0)
 
-add-loop : tie.Need-add-loop Inv-loop μ-loop
-add-loop c = search needs
-
-add-if2 : tie.Need-add-if2 Inv-loop μ-loop
-add-if2 c = search needs
-
-mul-if2 : tie.Need-mul-if2 Inv-loop μ-loop
-mul-if2 c = search needs
-
-shared-slice-read-if2 : tie.Need-shared-slice-read-if2 Inv-loop μ-loop
-shared-slice-read-if2 c = search needs
-
-mul-if2-2 : tie.Need-mul-if2-2 Inv-loop μ-loop
-mul-if2-2 c = search needs
-
-shared-slice-read-if2-2 : tie.Need-shared-slice-read-if2-2 Inv-loop μ-loop
-shared-slice-read-if2-2 c = search needs
+ends-at-requires : tie.Need-ends-at-requires Inv-loop μ-loop
+ends-at-requires c κs = search needs
 
 offer-requires : tie.Need-offer-requires Inv-loop μ-loop
 offer-requires c κs =
-    let t = c .before .before .before .before in
-    (search needs, search needs, search needs, scan-room _ _ _ _ _ (t .before .loop .inv) (t .loop-test .taken) (c .before .if2 .taken))
-
-add-i : tie.Need-add-i Inv-loop μ-loop
-add-i c = search needs
+    let g = c .before .before .before .before .loop .inv in
+    let h = c .before .before .before .loop-test .taken in
+    (g .stretch h .order, h, search needs, scan-room _ _ _ _ _ g h (c .before .before .ends-at .ensures) (c .before .if1 .taken))
 
 add-j : tie.Need-add-j Inv-loop μ-loop
 add-j c = search needs
@@ -56,22 +34,35 @@ loop-less c = search needs
 
 loop-again : tie.Need-loop-again Inv-loop μ-loop
 loop-again c =
-    let t = c .before .before .before in
-    let g = t .before .loop .inv in
-    let h = t .loop-test .taken in
-    ⊎-elim
-    (λ w. rw (w .5, w .6, w .7) (scan-cut _ _ _ _ _ g h (w .0 .taken) (w .2 .ensures)))
-    (λ w. rw (w .1, w .2, w .3) (scan-same _ _ _ _ _ g h (w .0 .left)))
-    (c .if2 .came)
+    let t = c .before .before .before .before .before in
+    scan-cut _ _ _ _ _ (t .before .before .loop .inv) (t .before .loop-test .taken) (t .ends-at .ensures) (c .before .before .before .before .if1 .taken) (c .before .before .offer .ensures)
 
-offer-requires-2 : tie.Need-offer-requires-2 Inv-loop μ-loop
-offer-requires-2 c κs = (search needs, search needs, search needs, end-room _ _ _ _ _ (c .before .before .loop .inv) (c .before .loop-test .left))
+-- there is a frame after j where the stretch goes on
+next : (c : tie.Else1 Inv-loop μ-loop) → c .before .before .before .loop .j + 1 < length (c .before .before .before .before .before .before .args .s .now)
+next c = next-within _ _ _ _ _ (c .before .before .before .loop .inv) (c .before .before .loop-test .taken) (c .before .ends-at .ensures) (c .if1 .left)
+
+add-flat-last : tie.Need-add-flat-last Inv-loop μ-loop
+add-flat-last c = search needs
+
+sub-flat-last : tie.Need-sub-flat-last Inv-loop μ-loop
+sub-flat-last c = omega (arith, next c)
+
+flat-last-requires : tie.Need-flat-last-requires Inv-loop μ-loop
+flat-last-requires c κs = (omega (arith, next c), omega (arith, next c))
+
+loop-less-2 : tie.Need-loop-less-2 Inv-loop μ-loop
+loop-less-2 c = omega (arith, c .flat-last .ensures .1 .0, c .before .before .before .loop-test .taken)
+
+loop-again-2 : tie.Need-loop-again-2 Inv-loop μ-loop
+loop-again-2 c =
+    let t = c .before .before in
+    scan-on _ _ _ _ _ (t .before .before .loop .inv) (t .before .loop-test .taken) (t .ends-at .ensures) (c .before .if1 .left) (c .flat-last .result) (c .flat-last .ensures)
 
 same-length : tie.Need-same-length Inv-loop μ-loop
-same-length c = c .before .before .offer2 .kept .1 .1 .1 .1 .1 .1 .0 ∙ fill-length (c .before .before .before .before .before .loop .inv .todo)
+same-length c = fill-length (c .before .loop .inv .todo)
 
-returns-2 : tie.Need-returns-2 Inv-loop μ-loop
-returns-2 c = scan-end _ _ _ _ _ (c .before .before .before .before .before .loop .inv) (c .before .before .before .before .loop-test .left) (c .before .before .offer2 .ensures)
+returns : tie.Need-returns Inv-loop μ-loop
+returns c = scan-end _ _ _ _ _ (c .before .loop .inv) (c .loop-test .left)
 
 pub local-extrema-spec : {M : Type 1} → statement M
 local-extrema-spec =
@@ -79,19 +70,16 @@ local-extrema-spec =
     (tie.spec
     Inv-loop
     μ-loop
-    returns
     loop-holds
-    add-loop
-    add-if2
-    mul-if2
-    shared-slice-read-if2
-    mul-if2-2
-    shared-slice-read-if2-2
+    ends-at-requires
     offer-requires
-    add-i
     add-j
     loop-less
     loop-again
-    offer-requires-2
+    add-flat-last
+    sub-flat-last
+    flat-last-requires
+    loop-less-2
+    loop-again-2
     same-length
-    returns-2)
+    returns)

@@ -1,0 +1,7 @@
+pub mod Puts
+pub mod Numbers
+pub mod Records
+pub mod Agreement
+pub mod Lines
+pub mod Sizes
+pub mod Known
