@@ -10,7 +10,7 @@ const USAGE: &str = "\
 judge COMMAND
   cases                             the specification's cases on the reference
   marks                             take file on standard input, listing on standard output
-  replay [SEED [KINDS]]             the replay list to standard output (SEED 1, KINDS 1-48)
+  replay [SEED [KINDS]]             the replay list to standard output (SEED 1, KINDS 1-56)
   fuzz KINDS COUNT SEED [FIRST]     fixed inputs and COUNT random ones of each kind, both sides,
                                     from place FIRST (0) of the random sequence on
   scaled COUNT SEED                 the library's chain on COUNT takes and on each times a whole
@@ -25,7 +25,7 @@ Exit status: 0 all as it should be, 1 a case or a comparison failed, 2 bad usage
 
 /// The seed and the kinds of the replay list, where none are named.
 const SEED: u64 = 1;
-const SMALL: &str = "1-48";
+const SMALL: &str = "1-56";
 
 fn main() -> ExitCode {
     let words: Vec<String> = std::env::args().skip(1).collect();

@@ -8,6 +8,7 @@ use tracks::track_fits;
 
 mod chain;
 mod fields;
+mod files;
 mod given;
 mod stages;
 mod tracks;
@@ -24,6 +25,7 @@ fn fits(kind: u8, input: &[u8]) -> bool {
         42 => fit(input, 5, 10),
         43 => fit(input, 2, 7),
         48 => samples_fit(input, 12) && fit(input, 3, 12),
+        56 => true,
         _ => false,
     }
 }
@@ -38,7 +40,8 @@ fn answer_of(kind: u8, input: &[u8], out: &mut [u8]) -> usize {
         41 => given::given(kind, 12, 28, input, out),
         42 => given::given(kind, 12, 24, input, out),
         43 => given::given(kind, 0, 12, input, out),
-        _ => chain::marks(input, out),
+        48 => chain::marks(input, out),
+        _ => files::listing(input, out),
     }
 }
 

@@ -1,0 +1,92 @@
+-- The text that answers a take file. Definitions only.
+use Prim.Native.Nat.{ℕ, zero, suc, _+_, _≤_}
+use mathlib.Core.Path.{_≡_}
+use mathlib.Core.Bool.{cond}
+use mathlib.Core.List.{List, []}
+use lib.Dec.{eqb}
+use lib.ListN.{length, take}
+use lib.Ieee.{Float}
+use Rattle.nuclei.specs.Nuclei.{framesOf, strengthsOf}
+use Rattle.admit.specs.Refusals.{chainRefusal}
+use Rattle.kiddwyr.specs.Chain.{Take, Reading, Lists, Left, readingOf, answered}
+use Rattle.take.specs.File.{readTake}
+use Rattle.take.specs.File.{Take as FileTake, Reading as FileReading}
+use Rattle.take.specs.File.Reading.{refused, taken}
+use Rattle.take.specs.Listing.{listing, refusedListing}
+use Rattle.take.specs.Listing.{Marks as Told}
+
+-- ---- a take
+-- what its listing tells: the pitches as given beside those of its reading, and the reading's marks
+abbrev pub told : List Float → Reading → Told
+told given m =
+    record {
+      given = given;
+      left = m .pitch;
+      found = answered m .found;
+      start = answered m .start;
+      end = answered m .end;
+      frames = framesOf (m .nuclei);
+      strengths = strengthsOf (m .nuclei);
+      extraFrames = framesOf (m .extras);
+      extraStrengths = strengthsOf (m .extras);
+      edges = m .edges;
+      boundaries = m .boundaries;
+    }
+
+-- the chain's refusal number where each list has the entries that it needs
+abbrev pub refusalIn : Take → ℕ
+refusalIn t =
+    let n = length (t .pitch) in
+    chainRefusal (t .db) (t .pitch) (t .voiced) (t .sonority) (t .vowel) (length (t .samples)) (t .settings) n n n n n (n + 1)
+
+-- by that number: the listing of the reading, or the refusal
+abbrev pub textBy : Take → ℕ → List ℕ
+textBy t zero = listing (told (t .pitch) (readingOf t))
+textBy t (suc k) = refusedListing (suc k)
+
+unfoldable pub textOf : Take → List ℕ
+textOf t = textBy t (refusalIn t)
+
+-- ---- a file
+-- its take, which has no samples
+abbrev pub unsampled : FileTake → Take
+unsampled t = record { db = t .db; pitch = t .pitch; voiced = t .voiced; sonority = t .sonority; vowel = t .vowel; samples = []; settings = t .settings }
+
+abbrev pub answerTo : FileReading → List ℕ
+answerTo (refused number) = refusedListing number
+answerTo (taken t) = textOf (unsampled t)
+
+-- what the program prints for a file of `total` bytes, of which `held` are the first
+unfoldable pub printed : List ℕ → ℕ → List ℕ
+printed held total = answerTo (readTake held total)
+
+-- ---- a call of the chain
+-- the text of what it answers and leaves: the entries that it answers for, and nothing past them
+unfoldable pub shown : List Float → Left → List ℕ
+shown given o =
+    cond (eqb (o .answer .refusal) 0)
+    (listing
+    (record {
+      given = given;
+      left = o .pitch;
+      found = o .answer .found;
+      start = o .answer .start;
+      end = o .answer .end;
+      frames = take (o .answer .nuclei) (o .lists .frames);
+      strengths = take (o .answer .nuclei) (o .lists .strengths);
+      extraFrames = take (o .answer .extras) (o .lists .xframes);
+      extraStrengths = take (o .answer .extras) (o .lists .xstrengths);
+      edges = take (o .answer .edges) (o .lists .edges);
+      boundaries = take (o .answer .boundaries) (o .lists .bounds);
+    }))
+    (refusedListing (o .answer .refusal))
+
+-- lists of at most the entries that n frames need
+pub record Room (n : ℕ) (l : Lists) : Type 0 where
+  pub few : n ≤ 2048
+  pub frames : length (l .frames) ≤ n
+  pub strengths : length (l .strengths) ≡ length (l .frames)
+  pub xframes : length (l .xframes) ≤ n
+  pub xstrengths : length (l .xstrengths) ≡ length (l .xframes)
+  pub edges : length (l .edges) ≤ n
+  pub bounds : length (l .bounds) ≤ n + 1

@@ -1,0 +1,235 @@
+// What the program `marks` prints, on bytes: a take file in, its listing out.
+use kiddwyr::chain::Marks;
+use region::Settings;
+use take::file::frames_in;
+use take::file::read_take;
+use take::file::read_track;
+use take::file::take_refusal;
+use take::listing::listing;
+use take::listing::refused;
+ghost use mathlib.Core.Path.{_≡_};
+ghost use Prim.Native.Nat.{_+_, _*_, _≤_, min};
+ghost use mathlib.Core.List.{[]};
+ghost use lib.ListN.{length};
+ghost use Rattle.lists.specs.Results.{Listed};
+ghost use Rattle.kiddwyr.specs.Chain.{chainOf};
+ghost use Rattle.take.specs.File.{framesIn, takeIn};
+ghost use Rattle.take.specs.Listing.{largestListing};
+ghost use Rattle.report.specs.Shown.{textOf, unsampled, printed, shown, Room};
+
+// The smaller of two numbers.
+pub fn least(a: usize, b: usize) -> usize
+    ensures { λ r. ⌜ r ≡ min a b ⌝ }
+{
+    if a < b { a } else { b }
+}
+
+fn blank_track() -> [f32; 2048]
+    ensures { λ r. ⌜ length r ≡ 2048 ⌝ }
+{
+    [0.0f32; 2048]
+}
+
+fn blank_marks() -> [u8; 2048]
+    ensures { λ r. ⌜ length r ≡ 2048 ⌝ }
+{
+    [0u8; 2048]
+}
+
+// One entry more than a take has frames, as boundaries may have.
+fn blank_list() -> [u32; 2049]
+    ensures { λ r. ⌜ length r ≡ 2049 ⌝ }
+{
+    [0u32; 2049]
+}
+
+// Writes the listing of what a call of the chain answered, or that it refused, to the front of a lent list.
+fn show(
+    m: Marks,
+    given: &[f32],
+    left: &[f32],
+    frames: &[u32],
+    strengths: &[f32],
+    xframes: &[u32],
+    xstrengths: &[f32],
+    edges: &[u32],
+    bounds: &[u32],
+    out: &mut [u8],
+) -> usize
+    requires { ⌜ (length (now given) ≡ length (now left)) × Room (length (now left)) (record { frames = now frames; strengths = now strengths; xframes = now xframes; xstrengths = now xstrengths; edges = now edges; bounds = now bounds }) ⌝ }
+    requires { ⌜ largestListing ≤ length (now out) ⌝ }
+    ensures { λ r. ⌜ Listed (shown (now (given .entry)) (record { answer = m; pitch = now (left .entry); lists = record { frames = now (frames .entry); strengths = now (strengths .entry); xframes = now (xframes .entry); xstrengths = now (xstrengths .entry); edges = now (edges .entry); bounds = now (bounds .entry) } })) (now (out .entry)) (now (out .exit)) r ⌝ }
+{
+    let number = m.refusal;
+    if number == 0 {
+        let a = least(m.nuclei, frames.len());
+        let b = least(m.extras, xframes.len());
+        let c = least(m.edges, edges.len());
+        let d = least(m.boundaries, bounds.len());
+        return listing(
+            given,
+            left,
+            m.found,
+            m.start,
+            m.end,
+            &frames[..a],
+            &strengths[..a],
+            &xframes[..b],
+            &xstrengths[..b],
+            &edges[..c],
+            &bounds[..d],
+            out,
+        );
+    }
+    refused(number, out)
+}
+
+// Runs the chain without samples on lent tracks and result lists, and writes the listing.
+fn list_marks(
+    given: &[f32],
+    db: &[f32],
+    pitch: &mut [f32],
+    voiced: &[f32],
+    sonority: &[f32],
+    vowel: &[u8],
+    p: Settings,
+    frames: &mut [u32],
+    strengths: &mut [f32],
+    xframes: &mut [u32],
+    xstrengths: &mut [f32],
+    edges: &mut [u32],
+    bounds: &mut [u32],
+    out: &mut [u8],
+) -> usize
+    requires { ⌜ (length (now given) ≡ length (now pitch)) × Room (length (now pitch)) (record { frames = now frames; strengths = now strengths; xframes = now xframes; xstrengths = now xstrengths; edges = now edges; bounds = now bounds }) ⌝ }
+    requires { ⌜ largestListing ≤ length (now out) ⌝ }
+    ensures { λ r. ⌜ Listed (shown (now (given .entry)) (chainOf (record { db = now (db .entry); pitch = now (pitch .entry); voiced = now (voiced .entry); sonority = now (sonority .entry); vowel = now (vowel .entry); samples = []; settings = p }) (record { frames = now (frames .entry); strengths = now (strengths .entry); xframes = now (xframes .entry); xstrengths = now (xstrengths .entry); edges = now (edges .entry); bounds = now (bounds .entry) }))) (now (out .entry)) (now (out .exit)) r ⌝ }
+{
+    let samples = [0i16; 1];
+    let m = kiddwyr::chain::chain(
+        db,
+        pitch,
+        voiced,
+        sonority,
+        vowel,
+        &samples[..0],
+        p,
+        frames,
+        strengths,
+        xframes,
+        xstrengths,
+        edges,
+        bounds,
+    );
+    show(
+        m,
+        given,
+        pitch,
+        frames,
+        strengths,
+        xframes,
+        xstrengths,
+        edges,
+        bounds,
+        out,
+    )
+}
+
+// Lends the result lists, each as long as the take needs.
+fn with_lists(
+    given: &[f32],
+    db: &[f32],
+    pitch: &mut [f32],
+    voiced: &[f32],
+    sonority: &[f32],
+    vowel: &[u8],
+    p: Settings,
+    out: &mut [u8],
+) -> usize
+    requires { ⌜ (now given ≡ now pitch) × (length (now pitch) ≤ 2048) ⌝ }
+    requires { ⌜ largestListing ≤ length (now out) ⌝ }
+    ensures { λ r. ⌜ Listed (textOf (record { db = now (db .entry); pitch = now (pitch .entry); voiced = now (voiced .entry); sonority = now (sonority .entry); vowel = now (vowel .entry); samples = []; settings = p })) (now (out .entry)) (now (out .exit)) r ⌝ }
+{
+    let n = pitch.len();
+    let mut frames = blank_list();
+    let mut strengths = blank_track();
+    let mut xframes = blank_list();
+    let mut xstrengths = blank_track();
+    let mut edges = blank_list();
+    let mut bounds = blank_list();
+    list_marks(
+        given,
+        db,
+        pitch,
+        voiced,
+        sonority,
+        vowel,
+        p,
+        &mut frames[..n],
+        &mut strengths[..n],
+        &mut xframes[..n],
+        &mut xstrengths[..n],
+        &mut edges[..n],
+        &mut bounds[..n + 1],
+        out,
+    )
+}
+
+// Reads a take to lent tracks, its pitches twice, since the chain changes them.
+fn on_tracks(
+    file: &[u8],
+    given: &mut [f32],
+    db: &mut [f32],
+    pitch: &mut [f32],
+    voiced: &mut [f32],
+    sonority: &mut [f32],
+    vowel: &mut [u8],
+    out: &mut [u8],
+) -> usize
+    requires { ⌜ (framesIn (now file) ≤ 2048) × (19 + 17 * framesIn (now file) ≤ length (now file)) ⌝ }
+    requires { ⌜ (length (now db) ≡ framesIn (now file)) × (length (now pitch) ≡ framesIn (now file)) × (length (now voiced) ≡ framesIn (now file)) × (length (now sonority) ≡ framesIn (now file)) × (length (now vowel) ≡ framesIn (now file)) × (length (now given) ≡ framesIn (now file)) ⌝ }
+    requires { ⌜ largestListing ≤ length (now out) ⌝ }
+    ensures { λ r. ⌜ Listed (textOf (unsampled (takeIn (now (file .entry))))) (now (out .entry)) (now (out .exit)) r ⌝ }
+{
+    read_track(file, 4, given);
+    let p = read_take(file, db, pitch, voiced, sonority, vowel);
+    with_lists(given, db, pitch, voiced, sonority, vowel, p, out)
+}
+
+// Lends the tracks, each as long as the take.
+fn with_tracks(file: &[u8], out: &mut [u8]) -> usize
+    requires { ⌜ (framesIn (now file) ≤ 2048) × (19 + 17 * framesIn (now file) ≤ length (now file)) ⌝ }
+    requires { ⌜ largestListing ≤ length (now out) ⌝ }
+    ensures { λ r. ⌜ Listed (textOf (unsampled (takeIn (now (file .entry))))) (now (out .entry)) (now (out .exit)) r ⌝ }
+{
+    let n = frames_in(file);
+    let mut given = blank_track();
+    let mut db = blank_track();
+    let mut pitch = blank_track();
+    let mut voiced = blank_track();
+    let mut sonority = blank_track();
+    let mut vowel = blank_marks();
+    on_tracks(
+        file,
+        &mut given[..n],
+        &mut db[..n],
+        &mut pitch[..n],
+        &mut voiced[..n],
+        &mut sonority[..n],
+        &mut vowel[..n],
+        out,
+    )
+}
+
+// Writes what `marks` prints for a file of `total` bytes, of which the first are held, to the front of a lent list,
+// and returns how many bytes that is. Of a file longer than the largest take only that many need be held.
+pub fn marks_of(held: &[u8], total: usize, out: &mut [u8]) -> usize
+    requires { ⌜ largestListing ≤ length (now out) ⌝ }
+    ensures { λ r. ⌜ Listed (printed (now (held .entry)) total) (now (out .entry)) (now (out .exit)) r ⌝ }
+{
+    let number = take_refusal(held, total);
+    if number == 0 {
+        return with_tracks(held, out);
+    }
+    refused(number, out)
+}
