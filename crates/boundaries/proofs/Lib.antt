@@ -6,4 +6,3 @@ pub mod Jointly
 pub mod Hills
 pub mod Whole
 pub mod Promise
-pub mod Known

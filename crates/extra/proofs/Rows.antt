@@ -1,4 +1,4 @@
--- K8, a split outside the region, and a nucleus that loses its mark, by evaluation. Assumes nothing.
+-- A split outside the region, and a nucleus that loses its mark, by evaluation. Assumes nothing.
 use mathlib.Core.Path.{_≡_, refl}
 use mathlib.Core.Bool.{true, false}
 use mathlib.Core.List.{List, [], _∷_, _++_}
@@ -22,7 +22,6 @@ use Rattle.extra.specs.Split.{change, maySplit, splitOf}
 use Rattle.extra.specs.Merging.{oneSyllable, survivor, anchors}
 use Rattle.extra.specs.Seconds.{heldBy, secondIn, seconds}
 use Rattle.extra.specs.Extra.{edgesBetween, candidates, sides, extraFrames, extraEdges, extrasOf, edgesOf}
-use Rattle.extra.specs.declared.split.Cut.the-variants.{Before}
 
 -- 0.75, 0.5 and 0.25
 abbrev high : Float
@@ -47,23 +46,6 @@ loud = fin true 5 (pos 2)
 
 abbrev quiet : Float
 quiet = fin true 15 (pos 2)
-
--- ---- K8: 40 frames
-abbrev sonority : List Float
-sonority = replicate 21 high ++ half ∷ replicate 18 low
-
-abbrev pitch : List Float
-pitch = replicate 10 none ++ replicate 20 voice ++ replicate 10 none
-
--- the run 10 .. 29 that holds the nucleus 15 splits before 22
-pub k8-split : splitOf sonority (record { first = 10; last = 29 }) 15 ≡ Before 22
-unfolding splitOf maySplit change keep add sub div round ofInt le
-k8-split = refl
-
--- the extra is at 25, its edge at 22
-pub k8 : (framesOf (extrasOf (replicate 40 loud) pitch sonority 0 40 (15 ∷ []) defaults) ≡ 25 ∷ []) × (edgesOf (replicate 40 loud) pitch sonority 0 40 (15 ∷ []) defaults ≡ 22 ∷ [])
-unfolding extrasOf edgesOf extraFrames extraEdges candidates sides edgesBetween seconds secondIn heldBy anchors survivor oneSyllable unpitchedPeaks unpitched vowelLike splitOf maySplit change louder pushBy mergeBy merged speechByLevel pitchNear flatFirst flatLast isExtremum localExtrema someFrame firstFrame firstBest extremumMiddle furthest shallow means levels tenthOf defaults voicedFrames voicedRuns longRuns grouped attach keep filter member inOrder narrow lt le eq ne add sub mul div round ofBits ofInt toBits toUnsigned
-k8 = (refl, refl)
 
 -- ---- a run that reaches past the region 0 .. 5, loud at the frames before it: the extra and its edge lie outside
 pub outside : (framesOf (extrasOf (replicate 5 loud ++ replicate 7 quiet) (replicate 12 voice) (replicate 6 high ++ replicate 6 low) 0 5 (1 ∷ []) defaults) ≡ 8 ∷ []) × (edgesOf (replicate 5 loud ++ replicate 7 quiet) (replicate 12 voice) (replicate 6 high ++ replicate 6 low) 0 5 (1 ∷ []) defaults ≡ 6 ∷ [])

@@ -10,5 +10,4 @@ pub mod Sizes
 pub mod Bounded
 pub mod Range
 pub mod Scaling
-pub mod Known
 pub mod Steady

@@ -5,5 +5,4 @@ pub mod Choice
 pub mod Whole
 pub mod Pitched
 pub mod Promises
-pub mod K1
 pub mod Turns

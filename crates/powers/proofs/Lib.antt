@@ -4,4 +4,3 @@ pub mod UnitLaws
 pub mod Never
 pub mod Order
 pub mod Repaired
-pub mod Known

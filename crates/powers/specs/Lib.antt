@@ -1,3 +1,2 @@
 pub mod Limbs
 pub mod Pitch
-pub mod Known

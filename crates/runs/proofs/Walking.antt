@@ -8,9 +8,10 @@ use mathlib.Core.Bool.{Bool, true, false, cond}
 use mathlib.Core.List.{List, [], _∷_, map}
 use lib.ListN.{length, getD, set, length-map}
 use lib.Ieee.{Float, nan, ne}
+use lib.Bits.{bitOr, or-add-and, and-le-l, and-le-r}
 use lib.Dec.{ltb}
 use borrow.Author.Tests.{le-leb, lt-leb, ltb-true, ltb-false}
-use Rattle.lists.specs.Results.{Listed, Pushed, consIf, filter}
+use Rattle.lists.specs.Results.{Listed, Pushed, consIf, moreIf, filter}
 use Rattle.lists.specs.Sorted.{StrictlyRises}
 use Rattle.lists.proofs.Fill.{Filling, fill-start, fill-push, fill-pushed, fill-fits, fill-fitsIf, fill-end, map-consIf, keep-step, keep-over}
 use Rattle.lists.proofs.Members.{keep-rises}
@@ -36,6 +37,17 @@ module _ (pitch : List Float) where
   -- ---- the next voiced frame
   pub none-here : (i : ℕ) → i < length pitch → voiced pitch i ≡ false → framesFrom pitch i ≡ framesFrom pitch (i + 1)
   none-here i h e = rw (keep-step (voiced pitch) i (length pitch) h, e)
+
+  -- a: whether a frame from j to before k is voiced
+  pub none-more : (j k a : ℕ) {r : ℕ} → k < length pitch → r ≡ moreIf (voiced pitch k) 0 → (a ≡ 0 → framesFrom pitch j ≡ framesFrom pitch k) → bitOr a r ≡ 0 → framesFrom pitch j ≡ framesFrom pitch (k + 1)
+  none-more j k a {r} h e f z =
+      let p : a ≡ 0 = omega (arith, z, or-add-and a r, and-le-r a r) in
+      let q : r ≡ 0 = omega (arith, z, or-add-and a r, and-le-l a r) in
+      f p ∙ none-here k h (unvoiced (voiced pitch k) (sym e ∙ q))
+    where
+      unvoiced : (b : Bool) → moreIf b 0 ≡ 0 → b ≡ false
+      unvoiced true g = absurd (omega arith)
+      unvoiced false g = refl
 
   one-here : (i : ℕ) → i < length pitch → voiced pitch i ≡ true → framesFrom pitch i ≡ i ∷ framesFrom pitch (i + 1)
   one-here i h e = rw (keep-step (voiced pitch) i (length pitch) h, e)

@@ -5,14 +5,16 @@ ghost use mathlib.Core.List.{_∷_, map};
 ghost use Prim.Native.Nat.{_+_, _≤_, _<_, min};
 ghost use lib.ListN.{length};
 ghost use lib.Ieee.{ne};
-ghost use Rattle.lists.specs.Results.{Listed, Pushed};
+ghost use Rattle.lists.specs.Results.{Listed, Pushed, moreIf};
 ghost use Rattle.runs.specs.Runs.{none, voiced, voicedFrames, sole, joined, voicedRuns, long, span, longRuns, sizes, firsts, lasts};
-ghost use Rattle.runs.specs.Ahead.{runsFrom, NextVoiced};
+ghost use Rattle.runs.specs.Ahead.{framesFrom, runsFrom, NextVoiced};
 
 // Two voiced frames that are at most this far apart share a run.
 const MAX_STEP: usize = 3;
 // A run with at least this many voiced frames is long.
 const MIN_RUN_FRAMES: u32 = 5;
+// How many frames are looked at together.
+const BLOCK: usize = 16;
 
 // A voiced run: its first and last frame, and how many voiced frames it has.
 pub struct Run {
@@ -38,12 +40,49 @@ pub fn voiced_frames(pitch: &[f32], out: &mut [u32]) -> usize
     n
 }
 
+// 1 where there is a pitch, else 0.
+pub fn one_voiced(hz: f32) -> u32
+    ensures { λ r. ⌜ r ≡ moreIf (ne hz none) 0 ⌝ }
+{
+    if hz != 0.0 { 1 } else { 0 }
+}
+
+// 0 where no frame of the block from j on is voiced. All of them are looked at together, which is quick in a long silence.
+fn voices(pitch: &[f32], j: usize) -> u32
+    requires { ⌜ j + 16 ≤ length (now pitch) ⌝ }
+    ensures { λ r. ⌜ (r ≡ 0 → framesFrom (now (pitch .entry)) j ≡ framesFrom (now (pitch .entry)) (j + 16)) ⌝ }
+{
+    let end = j + BLOCK;
+    let mut any = 0u32;
+    let mut k = j;
+    while k < end {
+        any = any | one_voiced(pitch[k]);
+        k += 1;
+    }
+    any
+}
+
+// A frame with no voiced one before it from i on: where the whole blocks without any end.
+fn skip_blocks(pitch: &[f32], i: usize) -> usize
+    requires { ⌜ i ≤ length (now pitch) ⌝ }
+    ensures { λ r. ⌜ (i ≤ r) × (r ≤ length (now (pitch .entry))) × (framesFrom (now (pitch .entry)) i ≡ framesFrom (now (pitch .entry)) r) ⌝ }
+{
+    let mut at = i;
+    while BLOCK <= pitch.len() - at {
+        if voices(pitch, at) != 0 {
+            return at;
+        }
+        at += BLOCK;
+    }
+    at
+}
+
 // The first voiced frame from i on, or the track's length where there is none.
 fn next_voiced(pitch: &[f32], i: usize) -> usize
     requires { ⌜ i ≤ length (now pitch) ⌝ }
     ensures { λ r. ⌜ NextVoiced (now (pitch .entry)) i r ⌝ }
 {
-    let mut at = i;
+    let mut at = skip_blocks(pitch, i);
     while at < pitch.len() {
         if pitch[at] != 0.0 {
             return at;

@@ -1,6 +1,6 @@
--- `repair::one_voiced` meets its contract. Assumes nothing.
-use Rattle.repair.proofs.one_voiced.Statement.{statement}
-use Rattle.repair.proofs.one_voiced.Tie as tie
+-- `runs::voiced::one_voiced` meets its contract. Assumes nothing.
+use Rattle.runs.proofs.voiced.one_voiced.Statement.{statement}
+use Rattle.runs.proofs.voiced.one_voiced.Tie as tie
 
 returns : tie.Need-returns
 returns c = rw (c .if1 .taken)
