@@ -17,6 +17,7 @@ const MIN_SPEECH_FRAMES: u32 = 5;
 
 // What a call may set: margin is how far over the floor speech lies, in dB; dip is how far the level must fall
 // between two nuclei, in dB; gap is how many frames apart two nuclei are at least.
+#[repr(C)]
 pub struct Settings {
     pub margin: f32,
     pub dip: f32,
