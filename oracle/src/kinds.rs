@@ -153,17 +153,25 @@ pub const KINDS: &[Kind] = &[
         pairs(r, segment::dropouts)
     }),
     items(30, "run-of", (4, 8), WHOLE, run_of),
-    counted(32, "repair", stages::repair),
+    counted(32, "repair", |r| stages::repair(r, entry::repair)),
     counted(33, "nsdf", stages::nsdf),
     counted(34, "estimate", stages::estimate),
-    counted(35, "recovery", stages::recovery),
-    counted(36, "speech-entry", stages::speech_marks),
-    counted(37, "region-entry", stages::region_entry),
-    counted(40, "nuclei", stages::nuclei),
-    counted(41, "extras", stages::extras),
-    counted(42, "boundaries-with", stages::boundaries_with),
-    counted(43, "boundaries", stages::boundaries),
-    counted(48, "chain", stages::chain),
+    counted(35, "recovery", |r| stages::recovery(r, entry::recover)),
+    counted(36, "speech-entry", |r| {
+        stages::speech_marks(r, entry::speech_marks)
+    }),
+    counted(37, "region-entry", |r| {
+        stages::region_entry(r, entry::region)
+    }),
+    counted(40, "nuclei", |r| stages::nuclei(r, entry::nuclei)),
+    counted(41, "extras", |r| stages::extras(r, entry::extras)),
+    counted(42, "boundaries-with", |r| {
+        stages::boundaries_with(r, entry::boundaries_with)
+    }),
+    counted(43, "boundaries", |r| {
+        stages::boundaries(r, entry::boundaries)
+    }),
+    counted(48, "chain", |r| stages::chain(r, entry::chain)),
     counted(56, "take-file", stages::take_file),
 ];
 

@@ -2,6 +2,8 @@
 //! the Rattle side with both.
 
 pub mod bench;
+#[cfg(feature = "bindings")]
+mod bindings;
 pub mod bytes;
 pub mod cases;
 pub mod entry;

@@ -19,8 +19,8 @@ judge COMMAND
                                     one, one of 7 bytes and one of 5 MB: it must print the listing
   bench [WORDS]                     both sides' times, of stages and takes whose line holds WORDS
 KINDS are numbers, ranges of them or names of README.md's table, with commas between, or `all`.
-fuzz, scaled and bench ask the static library where it is linked (feature `rattle`); the script
-`run` sees to that.
+fuzz, scaled and bench ask the static library where it is linked (feature `rattle`), fuzz and scaled
+its Rust bindings under the feature `bindings`; the script `run` sees to that.
 Exit status: 0 all as it should be, 1 a case or a comparison failed, 2 bad usage.";
 
 /// The seed and the kinds of the replay list, where none are named.

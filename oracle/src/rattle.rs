@@ -1,7 +1,10 @@
-//! The Rattle side. Everything that crosses the C boundary is declared here.
+//! The Rattle side. Everything that crosses the C boundary is declared here, or in the bindings.
+
+#[cfg(feature = "bindings")]
+pub use crate::bindings::answer;
 
 /// The answer's bytes to an input; no bytes where the library cannot take it.
-#[cfg(feature = "rattle")]
+#[cfg(all(feature = "rattle", not(feature = "bindings")))]
 pub fn answer(kind: u8, input: &[u8]) -> Option<Vec<u8>> {
     use crate::kinds::MAX_BYTES;
 
@@ -33,13 +36,15 @@ pub fn answer(kind: u8, input: &[u8]) -> Option<Vec<u8>> {
 }
 
 /// Without the library our second reading answers, or nothing does.
-#[cfg(not(feature = "rattle"))]
+#[cfg(not(any(feature = "rattle", feature = "bindings")))]
 pub fn answer(kind: u8, input: &[u8]) -> Option<Vec<u8>> {
     crate::second::answer(kind, input)
 }
 
 /// What the answers of [`answer`] come from.
-pub const SIDE: &str = if cfg!(feature = "rattle") {
+pub const SIDE: &str = if cfg!(feature = "bindings") {
+    "the Rattle library through its Rust bindings"
+} else if cfg!(feature = "rattle") {
     "the Rattle library"
 } else {
     "the second reading (no library linked)"

@@ -4,10 +4,11 @@
 //!
 //! Lent lists start out filled with 0xee bytes and are answered whole. A take too long for a
 //! record is made from a short one: samples are stored once and repeated up to their count.
+//! Which entry answers is the caller's to say: the reference's, or one of the bindings.
 
 use crate::bytes::{Reader, Writer};
 use crate::cases;
-use crate::entry::{self, Frames, Lists, Mark, Settings, MAX_FRAMES, MAX_SAMPLES};
+use crate::entry::{self, Answer, Found, Frames, Lists, Mark, Settings, MAX_FRAMES, MAX_SAMPLES};
 use crate::generate::{length, loudness, pitches, setting};
 use crate::kinds::UNTOUCHED;
 use crate::random::Random;
@@ -67,7 +68,7 @@ fn write_frames(w: Writer, list: &[u32]) -> Writer {
 }
 
 /// What was counted, or no count beside a refusal.
-fn outcome<T: Default>(answer: entry::Answer<T>) -> (u8, T) {
+fn outcome<T: Default>(answer: Answer<T>) -> (u8, T) {
     match answer {
         Ok(found) => (0, found),
         Err(number) => (number, T::default()),
@@ -84,9 +85,9 @@ fn repeated(stored: &[i16], count: usize) -> Option<Vec<i16>> {
 
 // Answers
 
-pub fn repair(r: &mut Reader) -> Option<Writer> {
+pub fn repair(r: &mut Reader, entry: impl Fn(&mut [f32]) -> Answer<()>) -> Option<Writer> {
     let mut pitch = r.rest(Reader::f32)?;
-    let (refusal, ()) = outcome(entry::repair(&mut pitch));
+    let (refusal, ()) = outcome(entry(&mut pitch));
     Some(Writer::new().u8(refusal).each(pitch, Writer::answer))
 }
 
@@ -108,12 +109,15 @@ fn window(r: &mut Reader) -> Option<Vec<i16>> {
     r.rest(i16).filter(|samples| samples.len() <= WINDOW)
 }
 
-pub fn recovery(r: &mut Reader) -> Option<Writer> {
+pub fn recovery(
+    r: &mut Reader,
+    entry: impl Fn(&mut [f32], &[i16], &[u8], &[u8]) -> Answer<()>,
+) -> Option<Writer> {
     let [pitches, speech, vowel, samples, stored] = counts(r)?;
     let mut pitch = r.many(pitches, Reader::f32)?;
     let (speech, vowel) = (r.bytes(speech)?, r.bytes(vowel)?);
     let samples = repeated(&r.many(stored, i16)?, samples)?;
-    let (refusal, ()) = outcome(entry::recover(&mut pitch, &samples, speech, vowel));
+    let (refusal, ()) = outcome(entry(&mut pitch, &samples, speech, vowel));
     Some(Writer::new().u8(refusal).each(pitch, Writer::answer))
 }
 
@@ -121,11 +125,14 @@ fn counts<const N: usize>(r: &mut Reader) -> Option<[usize; N]> {
     r.many(N, Reader::size)?.try_into().ok()
 }
 
-pub fn speech_marks(r: &mut Reader) -> Option<Writer> {
+pub fn speech_marks(
+    r: &mut Reader,
+    entry: impl Fn(&[f32], Settings, &mut [u8]) -> Answer<usize>,
+) -> Option<Writer> {
     let (settings, room) = (settings(r)?, r.size()?);
     let db = r.rest(Reader::f32)?;
     let mut marks = vec![UNTOUCHED as u8; room];
-    let (refusal, count) = outcome(entry::speech_marks(&db, settings, &mut marks));
+    let (refusal, count) = outcome(entry(&db, settings, &mut marks));
     Some(
         Writer::new()
             .u8(refusal)
@@ -134,9 +141,12 @@ pub fn speech_marks(r: &mut Reader) -> Option<Writer> {
     )
 }
 
-pub fn region_entry(r: &mut Reader) -> Option<Writer> {
+pub fn region_entry(
+    r: &mut Reader,
+    entry: impl Fn(&[f32], Settings) -> Answer<Option<(u32, u32)>>,
+) -> Option<Writer> {
     let settings = settings(r)?;
-    let (refusal, found) = outcome(entry::region(&r.rest(Reader::f32)?, settings));
+    let (refusal, found) = outcome(entry(&r.rest(Reader::f32)?, settings));
     Some(write_region(Writer::new().u8(refusal), found))
 }
 
@@ -145,17 +155,32 @@ fn write_region(w: Writer, found: Option<(u32, u32)>) -> Writer {
     w.u8(found.is_some().into()).u32(start).u32(end)
 }
 
-pub fn nuclei(r: &mut Reader) -> Option<Writer> {
+pub fn nuclei(
+    r: &mut Reader,
+    entry: impl Fn(&[f32], &[f32], Settings, (u32, u32), &mut [Mark]) -> Answer<usize>,
+) -> Option<Writer> {
     let (settings, region) = (settings(r)?, region(r)?);
     let [room, dbs, pitches] = counts(r)?;
     let db = r.many(dbs, Reader::f32)?;
     let pitch = r.many(pitches, Reader::f32)?;
     let mut list = marks(room);
-    let (refusal, count) = outcome(entry::nuclei(&db, &pitch, settings, region, &mut list));
+    let (refusal, count) = outcome(entry(&db, &pitch, settings, region, &mut list));
     Some(write_marks(Writer::new().u8(refusal).size(count), &list))
 }
 
-pub fn extras(r: &mut Reader) -> Option<Writer> {
+pub fn extras(
+    r: &mut Reader,
+    entry: impl Fn(
+        &[f32],
+        &[f32],
+        &[f32],
+        Settings,
+        (u32, u32),
+        &[u32],
+        &mut [Mark],
+        &mut [u32],
+    ) -> Answer<(usize, usize)>,
+) -> Option<Writer> {
     let (settings, region) = (settings(r)?, region(r)?);
     let [room, edge_room, dbs, pitches, sonorities, given] = counts(r)?;
     let db = r.many(dbs, Reader::f32)?;
@@ -163,23 +188,27 @@ pub fn extras(r: &mut Reader) -> Option<Writer> {
     let sonority = r.many(sonorities, Reader::f32)?;
     let given = r.many(given, Reader::u32)?;
     let (mut list, mut edges) = (marks(room), frames(edge_room));
-    let (refusal, (found, edged)) = outcome(entry::extras(
+    let (refusal, (found, edged)) = outcome(entry(
         &db, &pitch, &sonority, settings, region, &given, &mut list, &mut edges,
     ));
     let w = Writer::new().u8(refusal).size(found).size(edged);
     Some(write_frames(write_marks(w, &list), &edges))
 }
 
-pub fn boundaries_with(r: &mut Reader) -> Option<Writer> {
-    let settings = settings(r)?;
-    boundaries_of(r, Some(settings))
+pub fn boundaries_with(
+    r: &mut Reader,
+    entry: impl Fn(&[f32], &[f32], &[f32], Settings, (u32, u32), &[u32], &mut [u32]) -> Answer<usize>,
+) -> Option<Writer> {
+    let s = settings(r)?;
+    boundaries(r, |db, pitch, voiced_p, region, given, list| {
+        entry(db, pitch, voiced_p, s, region, given, list)
+    })
 }
 
-pub fn boundaries(r: &mut Reader) -> Option<Writer> {
-    boundaries_of(r, None)
-}
-
-fn boundaries_of(r: &mut Reader, settings: Option<Settings>) -> Option<Writer> {
+pub fn boundaries(
+    r: &mut Reader,
+    entry: impl Fn(&[f32], &[f32], &[f32], (u32, u32), &[u32], &mut [u32]) -> Answer<usize>,
+) -> Option<Writer> {
     let region = region(r)?;
     let [room, dbs, pitches, voiced, given] = counts(r)?;
     let db = r.many(dbs, Reader::f32)?;
@@ -187,14 +216,15 @@ fn boundaries_of(r: &mut Reader, settings: Option<Settings>) -> Option<Writer> {
     let voiced_p = r.many(voiced, Reader::f32)?;
     let given = r.many(given, Reader::u32)?;
     let mut list = frames(room);
-    let (refusal, count) = outcome(match settings {
-        Some(s) => entry::boundaries_with(&db, &pitch, &voiced_p, s, region, &given, &mut list),
-        None => entry::boundaries(&db, &pitch, &voiced_p, region, &given, &mut list),
-    });
+    let answer = entry(&db, &pitch, &voiced_p, region, &given, &mut list);
+    let (refusal, count) = outcome(answer);
     Some(write_frames(Writer::new().u8(refusal).size(count), &list))
 }
 
-pub fn chain(r: &mut Reader) -> Option<Writer> {
+pub fn chain(
+    r: &mut Reader,
+    entry: impl Fn(Frames, &mut [f32], Settings, &[i16], Lists) -> Answer<Found>,
+) -> Option<Writer> {
     let settings = settings(r)?;
     let rooms: [usize; 4] = counts(r)?;
     let [dbs, pitches, voiced, sonorities, vowels, samples, stored] = counts(r)?;
@@ -206,7 +236,7 @@ pub fn chain(r: &mut Reader) -> Option<Writer> {
     let samples = repeated(&r.many(stored, i16)?, samples)?;
     let (mut nuclei, mut extras) = (marks(rooms[0]), marks(rooms[1]));
     let (mut edges, mut boundaries) = (frames(rooms[2]), frames(rooms[3]));
-    let (refusal, found) = outcome(entry::chain(
+    let (refusal, found) = outcome(entry(
         Frames {
             db: &db,
             voiced_p: &voiced_p,
