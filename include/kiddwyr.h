@@ -11,13 +11,17 @@
  *
  * Every list is a pointer and the number of its entries. The pointer is aligned for its entries; it
  * may be null where the number is 0. A list that a function writes overlaps no other list of the
- * call. Beyond that no function asks anything of its caller: whatever it cannot take it refuses,
- * by a number.
+ * call. Floating point is in the mode that a program starts in: it rounds to nearest, and numbers near
+ * 0 are not flushed to it, neither as results nor as operands (FTZ and DAZ are off). Beyond that no
+ * function asks anything of its caller: whatever it cannot take it refuses, by a number.
  *
  * Lists without const are lent: results are written to the front of a result list, the answer says
  * how many, and entries past that stay as they were. A result list must have room for n entries, one
  * of boundaries for n + 1, whatever is found. Pitches are changed in place. After a refusal counts
  * are 0, no region is found, and nothing lent has changed.
+ *
+ * What a call returns and leaves is proved to every bit, but for one thing: the logic knows a single
+ * NaN, so which of them an entry that stays still holds is left open. Tests see that its bits stay too.
  *
  * No function allocates, keeps anything between calls or calls the system, so calls in different
  * threads do not meet unless they share a list. This is so because the language that the library
@@ -146,7 +150,9 @@ struct kiddwyr_counted kiddwyr_extras(
     struct kiddwyr_nucleus *list, size_t list_room,
     uint32_t *edges, size_t edges_room);
 
-/* The boundaries of a region around given nuclei, as frames. Refuses with 1 to 5, 7, 8, 10. */
+/* The boundaries of a region around given nuclei, as frames, its start and its end among them. A region
+ * without frames has one boundary, its start: on a take of no frames that is 0.
+ * Refuses with 1 to 5, 7, 8, 10. */
 struct kiddwyr_answer kiddwyr_boundaries_with(
     const float *db, size_t db_len,
     const float *pitch, size_t pitch_len,
@@ -165,10 +171,11 @@ struct kiddwyr_answer kiddwyr_boundaries(
     const struct kiddwyr_nucleus *nuclei, size_t nuclei_len,
     uint32_t *out, size_t out_room);
 
-/* Everything in turn, each on the tracks so far: repair, speech marks, recovery, region, nuclei,
- * extras, boundaries. Where no region is found the pitches are written all the same. It can write a
- * pitch that it would itself refuse: keep the pitches as given if it is to run again. Samples times a
- * whole number other than 0 give the same answer. Refuses with 1 to 6, 9, 10. */
+/* Every stage on the tracks as those before it left them: repair; by the speech marks, recovery; then
+ * the region, its nuclei, extras and boundaries. Where no region is found the pitches are written all
+ * the same. It can write a pitch that it would itself refuse: keep the pitches as given if it is to run
+ * again. Of two calls that differ in their samples alone, those of one being those of the other times
+ * a whole number other than 0, both return and leave the same. Refuses with 1 to 6, 9, 10. */
 struct kiddwyr_marks kiddwyr_chain(
     const float *db, size_t db_len,
     float *pitch, size_t pitch_len,

@@ -14,9 +14,14 @@
 //!
 //! Results go to the front of lent lists and the answer says how many there are; other entries
 //! stay. A list must have room for n entries, one of boundaries for n + 1, whatever is found.
-//! Pitches are changed in place. No function asks more of its caller: what it cannot take it
-//! refuses, and then nothing lent has changed. None allocates, keeps state or calls the system; on
-//! the stack the chain takes about 125 KB, the others less.
+//! Pitches are changed in place. Floating point must be in the mode that Rust assumes: it rounds to
+//! nearest, and numbers near 0 are not flushed to it. No function asks more of its caller: what it
+//! cannot take it refuses, and then nothing lent has changed. None allocates, keeps state or calls
+//! the system; on the stack the chain takes about 125 KB, the others less.
+//!
+//! What a call returns and leaves is proved to every bit, but for one thing: the logic knows a
+//! single NaN, so which of them an entry that stays still holds is left open. Tests see that its
+//! bits stay too.
 //!
 //! ```
 //! use kiddwyr::{chain, Lists, Nucleus, Settings, Tracks};
@@ -176,7 +181,7 @@ impl raw::Answer {
 
 // SAFETY, of every call below: each pointer comes with the length of a live slice, lists that are
 // written are borrowed alone, and the functions are proved to stay within what they are given and to
-// have no other demand.
+// have no other demand than the floating-point mode.
 
 /// Marks the frames of speech with 1 and all others with 0; how many frames.
 pub fn speech_marks(db: &[f32], settings: Settings, marks: &mut [u8]) -> Result<usize, Refusal> {
@@ -296,7 +301,9 @@ pub fn extras(
     })
 }
 
-/// The boundaries of a region around given nuclei, as frames, into `out`; how many.
+/// The boundaries of a region around given nuclei, as frames, into `out`; how many. Its start and
+/// its end are among them. A region without frames has one, its start: on a take of no frames that
+/// is 0.
 pub fn boundaries_with(
     db: &[f32],
     pitch: &[f32],
@@ -356,11 +363,13 @@ pub fn boundaries(
     answer.result()
 }
 
-/// Everything in turn, each on the tracks so far: repair, speech marks, recovery, region, nuclei,
-/// extras, boundaries. Without a region the pitches are written all the same.
+/// Every stage on the tracks as those before it left them: repair; by the speech marks, recovery;
+/// then the region, its nuclei, extras and boundaries. Without a region the pitches are written all
+/// the same.
 ///
 /// It can write a pitch that it would itself refuse: keep the pitches as given if it is to run
-/// again. Samples times a whole number other than 0 give the same answer.
+/// again. Of two calls that differ in their samples alone, those of one being those of the other
+/// times a whole number other than 0, both return and leave the same.
 pub fn chain(
     tracks: Tracks,
     pitch: &mut [f32],

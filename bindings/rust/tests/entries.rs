@@ -281,6 +281,12 @@ fn empty_lists_are_taken() {
     assert_eq!(kiddwyr::repair(&mut []), Ok(()));
     assert_eq!(kiddwyr::recover(&mut [], &[], &[], &[]), Ok(()));
     assert_eq!(kiddwyr::nuclei(&[], &[], 0..0, settings, &mut []), Ok(0));
+    let mut out = [77];
+    assert_eq!(
+        kiddwyr::boundaries(&[], &[], &[], 0..0, &[], &mut out),
+        Ok(1)
+    );
+    assert_eq!(out, [0]);
 }
 
 /// Each number by each entry that tests it; the others do not look at that fault, and no refused

@@ -10,6 +10,7 @@ use lib.Ieee.Scale.{finite}
 use Rattle.floats.specs.Plain.{magnitude}
 use Rattle.floats.specs.Total.{valueOf, placed}
 use Rattle.floats.proofs.Order.{value-back}
+use Rattle.floats.proofs.Zeros.{zero-bits, zero-int}
 use Rattle.lists.proofs.Tests.{and-cases, or-cases}
 use Rattle.powers.specs.Pitch.{Between}
 use Rattle.powers.proofs.UnitLaws.{bound-below, bound-above}
@@ -18,8 +19,7 @@ use Rattle.admit.specs.Values.{number, within, isNone, dbAdmitted, pitch
 
 -- ---- the constants
 pub n0 : ofBits binary32 0 ≡ number 0
-unfolding ofBits ofInt
-n0 = refl
+n0 = zero-bits binary32 false ∙ sym (zero-int binary32)
 
 pub n1 : ofBits binary32 1065353216 ≡ number 1
 unfolding ofBits ofInt

@@ -201,3 +201,24 @@ with-pauses db pitch voicing start end nuclei p wide = more _ _ _ (promised db p
   where
     more : (a n k : ℕ) → a ≤ 4 * n + 2 → a ≤ 4 * n + 2 + 2 * (k - n)
     more a n k h = omega arith
+
+-- ---- any two of them
+apart-from : (x : ℕ) (ys : List ℕ) → RisesFrom x ys → Pairs (λ a b. a + 2 < b) (x ∷ ys)
+apart-from x [] r = (tt, tt)
+apart-from x (y ∷ ys) r =
+    let rest = apart-from y ys (r .1) in
+    ((r .0, each-map (λ z. y + 2 < z) (λ z. x + 2 < z) (λ z h. omega (arith, r .0)) ys (rest .0)), rest)
+
+-- boundaries that reach from start to end are over 2 frames apart, whichever two
+pub reaches-apart : (start end : ℕ) (bs : List ℕ) → Reaches start end bs → Pairs (λ a b. a + 2 < b) bs
+reaches-apart start end [] r = absurd r
+reaches-apart start end (x ∷ xs) r = apart-from x xs (r .2)
+
+few-from : (x : ℕ) (ys : List ℕ) → RisesFrom x ys → x + length ys ≤ lastFrom x ys
+few-from x [] r = omega arith
+few-from x (y ∷ ys) r = omega (arith, r .0, few-from y ys (r .1))
+
+-- and no more than the frames up to the end, and one
+pub reaches-few : (start end : ℕ) (bs : List ℕ) → Reaches start end bs → length bs ≤ end + 1
+reaches-few start end [] r = absurd r
+reaches-few start end (x ∷ xs) r = omega (arith, r .1, few-from x xs (r .2))

@@ -20,7 +20,7 @@ unfoldable pub climbRight : List Float → ℕ → ℕ → ℕ
 climbRight s i zero = i
 climbRight s i (suc k) = cond (le (at s i) (at s (i + 1))) (climbRight s (i + 1) k) i
 
--- how far frame i lies below the lower of the two hills beside it
+-- the prominence of frame i: the level on the lower of its two hills, less its own
 unfoldable pub prominenceAt : List Float → ℕ → Float
 prominenceAt s i = sub binary32 (lower (at s (climbLeft s i)) (at s (climbRight s i (length s - (i + 1))))) (at s i)
 

@@ -47,6 +47,6 @@ pausesAt db threshold (i ∷ j ∷ js) =
 abbrev pub pausesIn : List Float → Float → ℕ → ℕ → List Gap
 pausesIn db threshold start end = pausesAt db threshold (between start end (changed (speechAt threshold db)))
 
--- 4 for each nucleus and 2, and 2 for each pause beyond the number of nuclei
+-- 4 a nucleus, 2 more, and twice as many as the pauses outnumber the nuclei
 abbrev pub atMost : ℕ → ℕ → ℕ
 atMost nuclei pauses = 4 * nuclei + 2 + 2 * (pauses - nuclei)

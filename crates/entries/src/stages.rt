@@ -2,11 +2,7 @@
 // number, with counts of 0, and leaves every lent track and list as it was.
 ghost use mathlib.Core.Path.{_≡_};
 ghost use mathlib.Core.Bool.{false};
-ghost use lib.ListN.{length};
-ghost use Rattle.lists.specs.Results.{Listed};
-ghost use Rattle.nuclei.specs.Nuclei.{framesOf, strengthsOf};
-ghost use Rattle.admit.specs.Refusals.{speechRefusal, regionRefusal, repairRefusal, recoveryRefusal, nucleiRefusal, extrasRefusal, boundariesRefusal, boundariesWithRefusal};
-ghost use Rattle.entries.specs.Stages.{marksEntry, regionEntry, spanned, repairEntry, recoverEntry, nucleiEntry, extrasEntry, edgesEntry, boundariesEntry, boundariesWithEntry};
+ghost use Rattle.entries.specs.Stages.{MarksCall, RegionCall, RepairCall, RecoverCall, NucleiCall, ExtrasCall, BoundariesWithCall, BoundariesCall};
 use admit::boundaries_refusal;
 use admit::boundaries_with_refusal;
 use admit::extras_refusal;
@@ -49,7 +45,7 @@ pub struct Counted {
 
 // Writes 1 for each frame of speech and 0 for each other one.
 pub fn speech_marks(db: &[f32], p: Settings, marks: &mut [u8]) -> Answer
-    ensures { λ r. ⌜ (r .refusal ≡ speechRefusal (now (db .entry)) p (length (now (marks .entry)))) × Listed (marksEntry (now (db .entry)) p (length (now (marks .entry)))) (now (marks .entry)) (now (marks .exit)) (r .count) ⌝ }
+    ensures { λ r. ⌜ MarksCall (now (db .entry)) p (now (marks .entry)) (now (marks .exit)) r ⌝ }
 {
     let number = speech_refusal(db, p, marks.len());
     if number != 0 {
@@ -67,7 +63,7 @@ pub fn speech_marks(db: &[f32], p: Settings, marks: &mut [u8]) -> Answer
 
 // Finds the region. Where there is none, and after a refusal, its ends are 0.
 pub fn region(db: &[f32], p: Settings) -> Spanned
-    ensures { λ r. ⌜ r ≡ spanned (regionRefusal (now (db .entry)) p) (regionEntry (now (db .entry)) p) ⌝ }
+    ensures { λ r. ⌜ RegionCall (now (db .entry)) p r ⌝ }
 {
     let number = region_refusal(db, p);
     if number != 0 {
@@ -98,7 +94,7 @@ fn nowhere(refusal: u32) -> Spanned
 
 // Puts octave errors right in place, and returns the refusal number.
 pub fn repair(pitch: &mut [f32]) -> u32
-    ensures { λ r. ⌜ (r ≡ repairRefusal (now (pitch .entry))) × (now (pitch .exit) ≡ repairEntry (now (pitch .entry))) ⌝ }
+    ensures { λ r. ⌜ RepairCall (now (pitch .entry)) (now (pitch .exit)) r ⌝ }
 {
     let number = repair_refusal(pitch);
     if number != 0 {
@@ -110,7 +106,7 @@ pub fn repair(pitch: &mut [f32]) -> u32
 
 // Gives pitches to periodic stretches of speech without one, in place, and returns the refusal number.
 pub fn recover(pitch: &mut [f32], samples: &[i16], speech: &[u8], vowel: &[u8]) -> u32
-    ensures { λ r. ⌜ (r ≡ recoveryRefusal (now (pitch .entry)) (length (now (samples .entry))) (now (speech .entry)) (now (vowel .entry))) × (now (pitch .exit) ≡ recoverEntry (now (pitch .entry)) (now (samples .entry)) (now (speech .entry)) (now (vowel .entry))) ⌝ }
+    ensures { λ r. ⌜ RecoverCall (now (samples .entry)) (now (speech .entry)) (now (vowel .entry)) (now (pitch .entry)) (now (pitch .exit)) r ⌝ }
 {
     let number = recovery_refusal(pitch, samples.len(), speech, vowel);
     if number != 0 {
@@ -130,7 +126,7 @@ pub fn nuclei(
     frames: &mut [u32],
     strengths: &mut [f32],
 ) -> Answer
-    ensures { λ r. ⌜ (r .refusal ≡ nucleiRefusal (now (db .entry)) (now (pitch .entry)) start end p (length (now (frames .entry))) (length (now (strengths .entry)))) × Listed (framesOf (nucleiEntry (now (db .entry)) (now (pitch .entry)) start end p (length (now (frames .entry))) (length (now (strengths .entry))))) (now (frames .entry)) (now (frames .exit)) (r .count) × Listed (strengthsOf (nucleiEntry (now (db .entry)) (now (pitch .entry)) start end p (length (now (frames .entry))) (length (now (strengths .entry))))) (now (strengths .entry)) (now (strengths .exit)) (r .count) ⌝ }
+    ensures { λ r. ⌜ NucleiCall (now (db .entry)) (now (pitch .entry)) start end p (now (frames .entry)) (now (frames .exit)) (now (strengths .entry)) (now (strengths .exit)) r ⌝ }
 {
     let number = nuclei_refusal(db, pitch, start, end, p, frames.len(), strengths.len());
     if number != 0 {
@@ -160,7 +156,7 @@ pub fn extras(
     strengths: &mut [f32],
     edges: &mut [u32],
 ) -> Counted
-    ensures { λ r. ⌜ (r .refusal ≡ extrasRefusal (now (db .entry)) (now (pitch .entry)) (now (sonority .entry)) start end (now (nuclei .entry)) p (length (now (frames .entry))) (length (now (strengths .entry))) (length (now (edges .entry)))) × Listed (framesOf (extrasEntry (now (db .entry)) (now (pitch .entry)) (now (sonority .entry)) start end (now (nuclei .entry)) p (length (now (frames .entry))) (length (now (strengths .entry))) (length (now (edges .entry))))) (now (frames .entry)) (now (frames .exit)) (r .extras) × Listed (strengthsOf (extrasEntry (now (db .entry)) (now (pitch .entry)) (now (sonority .entry)) start end (now (nuclei .entry)) p (length (now (frames .entry))) (length (now (strengths .entry))) (length (now (edges .entry))))) (now (strengths .entry)) (now (strengths .exit)) (r .extras) × Listed (edgesEntry (now (db .entry)) (now (pitch .entry)) (now (sonority .entry)) start end (now (nuclei .entry)) p (length (now (frames .entry))) (length (now (strengths .entry))) (length (now (edges .entry)))) (now (edges .entry)) (now (edges .exit)) (r .edges) ⌝ }
+    ensures { λ r. ⌜ ExtrasCall (now (db .entry)) (now (pitch .entry)) (now (sonority .entry)) start end (now (nuclei .entry)) p (now (frames .entry)) (now (frames .exit)) (now (strengths .entry)) (now (strengths .exit)) (now (edges .entry)) (now (edges .exit)) r ⌝ }
 {
     let number = extras_refusal(
         db,
@@ -211,7 +207,7 @@ pub fn boundaries_with(
     p: Settings,
     out: &mut [u32],
 ) -> Answer
-    ensures { λ r. ⌜ (r .refusal ≡ boundariesWithRefusal (now (db .entry)) (now (pitch .entry)) (now (voiced .entry)) start end (now (nuclei .entry)) p (length (now (out .entry)))) × Listed (boundariesWithEntry (now (db .entry)) (now (pitch .entry)) (now (voiced .entry)) start end (now (nuclei .entry)) p (length (now (out .entry)))) (now (out .entry)) (now (out .exit)) (r .count) ⌝ }
+    ensures { λ r. ⌜ BoundariesWithCall (now (db .entry)) (now (pitch .entry)) (now (voiced .entry)) start end (now (nuclei .entry)) p (now (out .entry)) (now (out .exit)) r ⌝ }
 {
     let number = boundaries_with_refusal(db, pitch, voiced, start, end, nuclei, p, out.len());
     if number != 0 {
@@ -237,7 +233,7 @@ pub fn boundaries(
     nuclei: &[u32],
     out: &mut [u32],
 ) -> Answer
-    ensures { λ r. ⌜ (r .refusal ≡ boundariesRefusal (now (db .entry)) (now (pitch .entry)) (now (voiced .entry)) start end (now (nuclei .entry)) (length (now (out .entry)))) × Listed (boundariesEntry (now (db .entry)) (now (pitch .entry)) (now (voiced .entry)) start end (now (nuclei .entry)) (length (now (out .entry)))) (now (out .entry)) (now (out .exit)) (r .count) ⌝ }
+    ensures { λ r. ⌜ BoundariesCall (now (db .entry)) (now (pitch .entry)) (now (voiced .entry)) start end (now (nuclei .entry)) (now (out .entry)) (now (out .exit)) r ⌝ }
 {
     let number = boundaries_refusal(db, pitch, voiced, start, end, nuclei, out.len());
     if number != 0 {

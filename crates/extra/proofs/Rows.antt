@@ -1,7 +1,7 @@
 -- A split outside the region, and a nucleus that loses its mark, by evaluation. Assumes nothing.
 use mathlib.Core.Path.{_≡_, refl}
 use mathlib.Core.Bool.{true, false}
-use mathlib.Core.List.{List, [], _∷_, _++_}
+use mathlib.Core.List.{[], _∷_, _++_}
 use lib.ListN.{replicate}
 use lib.IntN.{pos, negsuc}
 use lib.Ieee.{Float, fin, binary32, lt, le, eq, ne, add, sub, mul, div, round, ofBits, ofInt, toBits, toUnsigned}

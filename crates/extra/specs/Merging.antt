@@ -20,7 +20,7 @@ marked m i = eqb (getD m i 0) 1
 unfoldable pub oneSyllable : List Float → Settings → (ℕ → Bool) → ℕ → ℕ → Bool
 oneSyllable s p peak prev x = (peak prev || peak x) && (ltb (x - prev) (p .gap) || shallow s prev x (p .dip))
 
--- which of the two stays: a nucleus; of two unpitched peaks the louder, the earlier on a tie
+-- which of the two stays: one that is a nucleus; of two peaks without pitch the louder one, and where they are alike the first
 unfoldable pub survivor : List Float → (ℕ → Bool) → ℕ → ℕ → ℕ
 survivor s peak prev x = cond (peak prev) (cond (peak x) (louder s prev x) x) prev
 

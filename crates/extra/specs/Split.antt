@@ -16,7 +16,7 @@ use Rattle.extra.specs.declared.split.Cut.the-variants.{Before, Uncut}
 abbrev pub fifth : Float
 fifth = round binary32 false 1 5
 
--- how much the sonority changes across frame k: the mean of the 2 frames from it on against that of the 2 before it
+-- how much the sonority changes at frame k: between its mean over k - 2 and k - 1 and that over k and k + 1
 unfoldable pub change : List Float → ℕ → Float
 change son k = magnitude (sub binary32 (meanOf (slice k (k + 2) son)) (meanOf (slice (k - 2) k son)))
 

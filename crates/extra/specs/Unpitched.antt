@@ -1,9 +1,9 @@
--- Peaks of the level with a vowel's spectrum and no pitch. Definitions only.
+-- Peaks of the level that sound like a vowel and have no pitch. Definitions only.
 use Prim.Native.Nat.{ℕ}
-use mathlib.Core.Bool.{Bool, false, _&&_, not}
+use mathlib.Core.Bool.{Bool, _&&_, not}
 use mathlib.Core.List.{List}
-use lib.IntN.{negsuc}
-use lib.Ieee.{Float, fin, le}
+use lib.Ieee.{Float, le}
+use Rattle.floats.specs.Plain.{half}
 use Rattle.lists.specs.Results.{filter}
 use Rattle.smooth.specs.Level.{window, meanOf}
 use Rattle.smooth.specs.Extrema.{localExtrema}
@@ -11,11 +11,7 @@ use Rattle.smooth.specs.declared.extrema.Extremum.the-variants.{Max}
 use Rattle.nuclei.specs.declared.peaks.Bounds.{Bounds}
 use Rattle.nuclei.specs.Peaks.{pitchNear, speechByLevel}
 
--- 0.5
-abbrev pub half : Float
-half = fin false 1 (negsuc 0)
-
--- frame i is vowel-like: the mean sonority of the frames within 2 of it is at least 0.5
+-- frame i sounds like a vowel: averaged up to 2 frames to each side, the sonority is 0.5 or more
 unfoldable pub vowelLike : List Float → ℕ → Bool
 vowelLike son i = le half (meanOf (window son i))
 

@@ -1,5 +1,5 @@
 // Extras: syllables that the nuclei miss, and the edges that go with them. A vowel can be loud and have no pitch that the
-// tracker accepts, and two syllables can run as one voiced run with no dip and no break.
+// tracker accepts, and two syllables may share a voiced run in which neither level nor pitch parts them.
 pub mod merging;
 pub mod seconds;
 pub mod split;

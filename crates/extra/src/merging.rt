@@ -37,8 +37,8 @@ fn one_syllable(s: &[f32], p: Settings, peaks: &[u8; 2048], prev: u32, x: u32) -
     }
 }
 
-// Which of two anchors, the earlier first, stays when they are one syllable: the nucleus, or of two unpitched peaks the
-// louder, the earlier on a tie.
+// Which of two anchors, the earlier first, stays when they are one syllable: the nucleus; of two peaks without pitch the
+// louder one, and where they are alike the first.
 fn survivor(s: &[f32], peaks: &[u8; 2048], prev: u32, x: u32) -> u32
     requires { ⌜ (length (now s) ≤ 2048) × (prev < x) × (x < length (now s)) ⌝ }
     ensures { λ r. ⌜ r ≡ survivor (now (s .entry)) (marked (now (peaks .entry))) prev x ⌝ }

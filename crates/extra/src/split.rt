@@ -1,5 +1,5 @@
-// Where a voiced run splits: two syllables that a sonorant joins have no dip in level and no break in pitch between them,
-// but the spectrum changes at the join.
+// Where a voiced run splits: across a sonorant neither level nor pitch parts two syllables, but the spectrum changes where
+// they meet.
 use floats::plain::magnitude;
 use floats::plain::plain_zero;
 ghost use mathlib.Core.Path.{_≡_};
@@ -18,7 +18,7 @@ const SPLIT_CHANGE: f32 = 0.2;
 const SPLIT_REACH: usize = 2;
 // Frames that each part of a split run has at least: 60 ms, the shortest syllable.
 const MIN_PART: usize = 6;
-// A split is at least this many frames from the nucleus that the run holds.
+// The fewest frames from a split to the run's nucleus.
 const SPLIT_FROM_NUCLEUS: usize = 3;
 
 // The first frame of the second part of a run, or that it does not split.

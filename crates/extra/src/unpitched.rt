@@ -1,4 +1,4 @@
-// Peaks of the level with a vowel's spectrum and no pitch: syllables whose pitch was lost.
+// Peaks of the level that sound like a vowel and have no pitch: syllables whose pitch was lost.
 use super::split::mean;
 use nuclei::peaks::Bounds;
 use nuclei::peaks::is_speech;

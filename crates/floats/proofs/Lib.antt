@@ -5,3 +5,7 @@ pub mod Narrow
 pub mod Rounded
 pub mod Zeros
 pub mod Order
+pub mod Less
+pub mod Numbers
+pub mod Quotient
+pub mod Sizes

@@ -18,6 +18,7 @@ use lib.Ieee.Nearest.{closest, closest-mono, closest-same, div-same}
 use lib.Ieee.Scale.{round-same}
 use Rattle.floats.specs.Narrow.{narrow}
 use Rattle.floats.proofs.Closest.{closest-le, closest-ge}
+use Rattle.floats.proofs.Zeros.{zero-bits}
 use Rattle.floats.proofs.Pattern.{size-is, round-units, round-bits, units-inf}
 
 -- ---- by any fraction that the value equals
@@ -146,13 +147,6 @@ round-tiny s a h =
 
     third : (z : ℕ) → z < 2 ^ 923 → z * 2 ^ 149 * 3 ≤ 1 * 2 ^ 1074
     third z g = le-trans (mul-le-mul-right 3 (le-of-lt (shl-lt 923 149 g))) (lit≤ tt)
-
-zero-bits : (f : Format) (s : Bool) → ofBits f (cond s (top f) 0) ≡ fin s 0 (pos 0)
-unfolding ofBits
-zero-bits binary32 true = refl
-zero-bits binary32 false = refl
-zero-bits binary64 true = refl
-zero-bits binary64 false = refl
 
 inf-bits : (f : Format) (s : Bool) → ofBits f (cond s (top f) 0 + ones f * hid f) ≡ inf s
 unfolding toBits

@@ -19,14 +19,14 @@ abbrev places : Format → ℤ → ℕ
 places f (pos k) = k + low f
 places f (negsuc k) = low f - suc k
 
-no-more : (i j : ℕ) → 2 ^ i ≤ 2 ^ j → i ≤ j
-no-more i j h = le-of-suc-le-suc (lt-of-not-le (λ (g : suc j ≤ i). not-le-of-lt (pow-lt g) h))
+pub pow-le-back : (i j : ℕ) → 2 ^ i ≤ 2 ^ j → i ≤ j
+pow-le-back i j h = le-of-suc-le-suc (lt-of-not-le (λ (g : suc j ≤ i). not-le-of-lt (pow-lt g) h))
 
 in-units : (f : Format) (m : ℕ) (e : ℤ) → down e ≤ 2 ^ low f → m * up e * 2 ^ low f ≡ m * 2 ^ places f e * down e
 in-units f m (pos k) h = mul-assoc m (2 ^ k) (2 ^ low f) ∙ ap (λ (z : ℕ). m * z) (sym (pow-add 2 k (low f))) ∙ sym (mul-one (m * 2 ^ (k + low f)))
 in-units f m (negsuc k) h =
     ap (λ (z : ℕ). z * 2 ^ low f) (mul-one m)
-    ∙ ap (λ (z : ℕ). m * z) (ap (λ (j : ℕ). 2 ^ j) (sym (back (low f) (suc k) (no-more (suc k) (low f) h))) ∙ pow-add 2 (low f - suc k) (suc k))
+    ∙ ap (λ (z : ℕ). m * z) (ap (λ (j : ℕ). 2 ^ j) (sym (back (low f) (suc k) (pow-le-back (suc k) (low f) h))) ∙ pow-add 2 (low f - suc k) (suc k))
     ∙ sym (mul-assoc m (2 ^ (low f - suc k)) (2 ^ suc k))
 
 in-range : (f : Format) (m : ℕ) (e : ℤ) → down e ≤ 2 ^ low f → m * up e < 2 ^ suc (emax f) * down e → m * 2 ^ places f e < 2 ^ (low f + suc (emax f))

@@ -1,13 +1,21 @@
--- The size of a number, and values that take the place of others. Definitions only.
+-- Numbers that the code writes out, the size of a number, and values that take the place of others. Definitions only.
 use Prim.Native.Nat.{zero, suc}
 use mathlib.Core.Bool.{false, cond}
-use lib.IntN.{pos}
+use lib.IntN.{pos, negsuc}
 use lib.Ieee.{Float, nan, inf, fin}
 use lib.Ieee.Scale.{finite}
 
 -- +0.0
 abbrev pub zeroF : Float
 zeroF = fin false 0 (pos 0)
+
+-- 0.5
+abbrev pub half : Float
+half = fin false 1 (negsuc 0)
+
+-- 2.0
+abbrev pub two : Float
+two = fin false 1 (pos 1)
 
 -- a value without its sign; of a zero, +0.0
 abbrev pub magnitude : Float → Float

@@ -29,7 +29,7 @@ strict-below : (lo hi hi' : ℕ) (xs : List ℕ) → hi ≤ hi' → StrictlyRise
 strict-below lo hi hi' [] h s = tt
 strict-below lo hi hi' (x ∷ xs) h s = (s .0, omega (arith, s .1), strict-below (x + 1) hi hi' xs h (s .2))
 
-framed : (l : List Nucleus) → length (framesOf l) ≡ length l
+pub framed : (l : List Nucleus) → length (framesOf l) ≡ length l
 framed l = length-map l (λ (n : Nucleus). n .frame)
 
 -- answers with the same counts are the same

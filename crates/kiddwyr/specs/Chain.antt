@@ -129,10 +129,24 @@ refusalOf t l =
     chainRefusal (t .db) (t .pitch) (t .voiced) (t .sonority) (t .vowel) (length (t .samples)) (t .settings)
     (length (l .frames)) (length (l .strengths)) (length (l .xframes)) (length (l .xstrengths)) (length (l .edges)) (length (l .bounds))
 
--- by the refusal number: the reading of the take, or the number and all as it was
+-- by the refusal number: the reading of the take, or its pitches as they were and no marks
+unfoldable pub readingBy : Take → ℕ → Reading
+readingBy t zero = readingOf t
+readingBy t (suc k) = unmarked (t .pitch)
+
+-- by the refusal number: the answer that the reading is given by, or the number
+unfoldable pub answerBy : Take → ℕ → Marks
+answerBy t zero = answered (readingOf t)
+answerBy t (suc k) = nothing (suc k)
+
+-- a refusal's number, and all as it was
+abbrev pub asLent : Take → Lists → ℕ → Left
+asLent t l number = record { answer = nothing number; pitch = t .pitch; lists = l }
+
+-- by the refusal number
 abbrev pub leaves : Take → Lists → ℕ → Left
 leaves t l zero = leftBy (readingOf t) l
-leaves t l (suc k) = record { answer = nothing (suc k); pitch = t .pitch; lists = l }
+leaves t l (suc k) = asLent t l (suc k)
 
 -- the whole chain
 unfoldable pub chainOf : Take → Lists → Left

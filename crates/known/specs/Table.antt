@@ -1,52 +1,62 @@
--- The known takes and pitches of document 01, K1 to K8, as rows of one table. Definitions only.
-use Prim.Native.Nat.{ℕ}
+-- The known takes and pitches of document 01, K1 to K8, and some more beside a limit, as rows of one table. Definitions only.
+use Prim.Native.Nat.{ℕ, zero, suc}
 use mathlib.Core.Path.{_≡_}
-use mathlib.Core.Bool.{Bool, true, false}
+use mathlib.Core.Bool.{true, false}
 use mathlib.Core.List.{List, [], _∷_, _++_, map, flatMap}
 use lib.IntN.{ℤ, pos}
 use lib.ListN.{length, replicate}
 use lib.Ieee.{Float, binary32, binary64, round, neg, ofInt}
-use Rattle.powers.specs.Pitch.{octaveAt, stepAt}
-use Rattle.powers.specs.declared.pitch.Octave.{Octave}
-use Rattle.powers.specs.declared.pitch.Octave.the-variants.{Keep, Halve}
 use Rattle.region.specs.Defaults.{defaults}
-use Rattle.runs.specs.Runs.{Span}
 use Rattle.nsdf.specs.Nsdf.{nsdf, window}
 use Rattle.nsdf.specs.Period.{near}
+use Rattle.nsdf.specs.declared.period.Estimate.{Estimate}
+use Rattle.nsdf.specs.declared.period.Estimate.the-variants.{Nothing, Hz}
+use Rattle.repair.specs.Repair.{repaired}
+use Rattle.recover.specs.Recovered.{recoveredFrom}
 use Rattle.nuclei.specs.Nuclei.{framesOf}
-use Rattle.extra.specs.Split.{splitOf}
-use Rattle.extra.specs.Extra.{extrasOf}
-use Rattle.extra.specs.declared.split.Cut.{Cut}
-use Rattle.extra.specs.declared.split.Cut.the-variants.{Before}
-use Rattle.kiddwyr.specs.Chain.{Take, readingOf}
+use Rattle.extra.specs.Extra.{extrasOf, edgesOf}
+use Rattle.admit.specs.Refusals.{regionRefusal}
+use Rattle.entries.specs.Stages.{regionEntry, spanned}
+use Rattle.entries.specs.declared.stages.Spanned.{Spanned}
+use Rattle.kiddwyr.specs.Chain.{Take, Lists, Left, chainOf}
 use Rattle.report.specs.Shown.{printed}
 
--- a row: a take file and the whole output; a take, its nuclei and its boundaries; a pitch beside a middle pair and what is done to it; two
--- estimates and whether they join; samples, a centre, lags and their periodicity; a sonority with a run and its nucleus, where it splits, and the extras there
+-- a row: a take file and the whole output; a take, the lent lists, and all that the chain answers and leaves; a pitch track as given and as
+-- repaired; a pitch track as given, an estimate for each frame, and the track with what is recovered; samples, a centre, lags and their
+-- periodicity; dB, pitches and sonority with a nucleus, and the edges and extra candidates there; a dB track and the answer about its region.
+-- Pitches and estimates are in whole Hz, 0 for none
 pub data Row : Type 0 where
   prints : List ℕ → List ℕ → Row
-  marks : Take → List ℕ → List ℕ → Row
-  repairs : Float → Float → Float → Octave → Row
-  joins : Float → Float → Bool → Row
+  marks : Take → Lists → Left → Row
+  repairs : List ℕ → List ℕ → Row
+  recovers : List ℕ → List ℕ → List ℕ → Row
   repeats : List ℤ → ℕ → List ℕ → List Float → Row
-  splits : List Float → List Float → List Float → Span → ℕ → Cut → List ℕ → Row
+  splits : List Float → List Float → List Float → ℕ → List ℕ → List ℕ → Row
+  spans : List Float → Spanned → Row
 
--- the definitions give what the row says
-abbrev pub Right : Row → Type 0
-Right (prints file text) = printed file (length file) ≡ text
-Right (marks t nuclei boundaries) = (framesOf (readingOf t .nuclei) ≡ nuclei) × (readingOf t .boundaries ≡ boundaries)
-Right (repairs f a b octave) = octaveAt f a b ≡ octave
-Right (joins p q b) = stepAt p q ≡ b
-Right (repeats samples centre lags values) = map (nsdf (window samples centre)) lags ≡ values
-Right (splits db pitch sonority run nucleus cut extras) =
-    (splitOf sonority run nucleus ≡ cut) × (framesOf (extrasOf db pitch sonority 0 (length db) (nucleus ∷ []) defaults) ≡ extras)
-
--- a whole number as an f32, and as an f64
+-- a whole number as an f32
 abbrev f32 : ℕ → Float
 f32 n = ofInt binary32 (pos n)
 
-abbrev f64 : ℕ → Float
-f64 n = ofInt binary64 (pos n)
+-- a pitch track
+abbrev track : List ℕ → List Float
+track = map f32
+
+-- an estimate
+abbrev estimate : ℕ → Estimate
+estimate zero = Nothing
+estimate (suc n) = Hz (ofInt binary64 (pos (suc n)))
+
+-- the definitions that the contracts cite give what the row says; of the recovery, the one that takes the estimates
+abbrev pub Right : Row → Type 0
+Right (prints file text) = printed file (length file) ≡ text
+Right (marks take lent left) = chainOf take lent ≡ left
+Right (repairs given after) = repaired (track given) ≡ track after
+Right (recovers given found after) = recoveredFrom (track given) (map estimate found) ≡ track after
+Right (repeats samples centre lags values) = map (nsdf (window samples centre)) lags ≡ values
+Right (splits db pitch sonority nucleus edges extras) =
+    (edgesOf db pitch sonority 0 (length db) (nucleus ∷ []) defaults ≡ edges) × (framesOf (extrasOf db pitch sonority 0 (length db) (nucleus ∷ []) defaults) ≡ extras)
+Right (spans db answer) = spanned (regionRefusal db defaults) (regionEntry db defaults) ≡ answer
 
 -- ---- K1, byte by byte
 -- the bits of f32: 0, 0.75, 1, 2, 10, 200, -20 and -60
@@ -114,6 +124,52 @@ steppedTo hz =
       settings = defaults;
     }
 
+-- lists with just the room that is asked for, and 99 at every place
+abbrev pub lent : Lists
+lent =
+    record {
+      frames = replicate 32 99;
+      strengths = replicate 32 (f32 99);
+      xframes = replicate 32 99;
+      xstrengths = replicate 32 (f32 99);
+      edges = replicate 32 99;
+      bounds = replicate 33 99;
+    }
+
+-- nothing refused, the region 4 to 28, the pitches as given; two nuclei and four boundaries, no extra candidate
+abbrev pub k2 : Left
+k2 =
+    record {
+      answer = record { refusal = 0; found = true; start = 4; end = 28; nuclei = 2; extras = 0; edges = 0; boundaries = 4 };
+      pitch = apart 200 238;
+      lists =
+          record {
+            frames = 13 ∷ 21 ∷ replicate 30 99;
+            strengths = f32 40 ∷ f32 40 ∷ replicate 30 (f32 99);
+            xframes = replicate 32 99;
+            xstrengths = replicate 32 (f32 99);
+            edges = replicate 32 99;
+            bounds = 4 ∷ 14 ∷ 17 ∷ 28 ∷ replicate 29 99;
+          };
+    }
+
+-- the same with one nucleus, and boundaries at the ends only
+abbrev pub k3 : Left
+k3 =
+    record {
+      answer = record { refusal = 0; found = true; start = 4; end = 28; nuclei = 1; extras = 0; edges = 0; boundaries = 2 };
+      pitch = apart 200 237;
+      lists =
+          record {
+            frames = 13 ∷ replicate 31 99;
+            strengths = f32 40 ∷ replicate 31 (f32 99);
+            xframes = replicate 32 99;
+            xstrengths = replicate 32 (f32 99);
+            edges = replicate 32 99;
+            bounds = 4 ∷ 28 ∷ replicate 31 99;
+          };
+    }
+
 -- ---- K8: 40 frames of -20 dB, the run 10 to 29
 abbrev voice : List Float
 voice = replicate 10 (f32 0) ++ replicate 20 (f32 200) ++ replicate 10 (f32 0)
@@ -121,25 +177,49 @@ voice = replicate 10 (f32 0) ++ replicate 20 (f32 200) ++ replicate 10 (f32 0)
 abbrev fall : List Float
 fall = replicate 21 (round binary32 false 3 4) ++ (round binary32 false 1 2) ∷ replicate 18 (round binary32 false 1 4)
 
+-- ---- beside a limit: 10 frames of -60 dB, then n of -20
+abbrev burst : ℕ → List Float
+burst n = replicate 10 (neg (f32 60)) ++ replicate n (neg (f32 20))
+
 -- ---- the rows
 unfoldable pub known : List Row
 known =
     -- K1
     prints k1 k1Text
     -- K2, K3
-    ∷ marks (steppedTo 238) (13 ∷ 21 ∷ []) (4 ∷ 14 ∷ 17 ∷ 28 ∷ [])
-    ∷ marks (steppedTo 237) (13 ∷ []) (4 ∷ 28 ∷ [])
+    ∷ marks (steppedTo 238) lent k2
+    ∷ marks (steppedTo 237) lent k3
     -- K4
-    ∷ repairs (f32 200) (f32 118) (f32 118) Halve
-    ∷ repairs (f32 200) (f32 119) (f32 119) Keep
+    ∷ repairs (118 ∷ 118 ∷ 200 ∷ 118 ∷ 118 ∷ []) (118 ∷ 118 ∷ 100 ∷ 118 ∷ 118 ∷ [])
+    ∷ repairs (119 ∷ 119 ∷ 200 ∷ 119 ∷ 119 ∷ []) (119 ∷ 119 ∷ 200 ∷ 119 ∷ 119 ∷ [])
     -- K5
-    ∷ repairs (f32 200) (f32 110) (f32 128) Halve
-    ∷ repairs (f32 200) (f32 110) (f32 130) Keep
+    ∷ repairs (110 ∷ 110 ∷ 200 ∷ 128 ∷ 128 ∷ []) (110 ∷ 110 ∷ 100 ∷ 128 ∷ 128 ∷ [])
+    ∷ repairs (110 ∷ 110 ∷ 200 ∷ 130 ∷ 130 ∷ []) (110 ∷ 110 ∷ 200 ∷ 130 ∷ 130 ∷ [])
     -- K6
-    ∷ joins (f64 200) (f64 218) true
-    ∷ joins (f64 200) (f64 219) false
+    ∷ recovers (0 ∷ 0 ∷ 0 ∷ []) (200 ∷ 218 ∷ 218 ∷ []) (200 ∷ 218 ∷ 218 ∷ [])
+    ∷ recovers (0 ∷ 0 ∷ 0 ∷ []) (200 ∷ 219 ∷ 219 ∷ []) (0 ∷ 0 ∷ 0 ∷ [])
     -- K7
     ∷ repeats (pos 1 ∷ pos 2 ∷ pos 1 ∷ pos 2 ∷ []) 0 (1 ∷ 2 ∷ 3 ∷ 4 ∷ []) (near 8 10 ∷ near 1 1 ∷ near 8 10 ∷ near 0 1 ∷ [])
     -- K8
-    ∷ splits (replicate 40 (neg (f32 20))) voice fall (record { first = 10; last = 29 }) 15 (Before 22) (25 ∷ [])
+    ∷ splits (replicate 40 (neg (f32 20))) voice fall 15 (22 ∷ []) (25 ∷ [])
+    -- 4 speech frames, and 5
+    ∷ spans (burst 4) (record { refusal = 0; found = false; start = 0; end = 0 })
+    ∷ spans (burst 5) (record { refusal = 0; found = true; start = 10; end = 15 })
+    -- dB 1,000, and 1,001
+    ∷ spans (f32 1000 ∷ []) (record { refusal = 0; found = false; start = 0; end = 0 })
+    ∷ spans (f32 1001 ∷ []) (record { refusal = 4; found = false; start = 0; end = 0 })
+    -- in the repair, frames with no pitch are passed over, up to 2 in a row; a fifth voiced frame 4 frames on is in another run
+    ∷ repairs (118 ∷ 0 ∷ 118 ∷ 200 ∷ 118 ∷ 0 ∷ 0 ∷ 118 ∷ []) (118 ∷ 0 ∷ 118 ∷ 100 ∷ 118 ∷ 0 ∷ 0 ∷ 118 ∷ [])
+    ∷ repairs (118 ∷ 118 ∷ 200 ∷ 118 ∷ 0 ∷ 0 ∷ 0 ∷ 118 ∷ []) (118 ∷ 118 ∷ 200 ∷ 118 ∷ 0 ∷ 0 ∷ 0 ∷ 118 ∷ [])
+    -- a repaired pitch does not count for the others, nor does a pitch for itself
+    ∷ repairs (100 ∷ 100 ∷ 100 ∷ 200 ∷ 200 ∷ 200 ∷ []) (200 ∷ 200 ∷ 200 ∷ 100 ∷ 100 ∷ 100 ∷ [])
+    -- a pitch may come to lie below 40 Hz
+    ∷ repairs (44 ∷ 44 ∷ 76 ∷ 44 ∷ 44 ∷ []) (44 ∷ 44 ∷ 38 ∷ 44 ∷ 44 ∷ [])
+    -- two frames are not recovered, and a frame with no estimate ends a stretch; two stretches that adjoin both are
+    ∷ recovers (0 ∷ 0 ∷ 0 ∷ 0 ∷ []) (200 ∷ 200 ∷ 0 ∷ 200 ∷ []) (0 ∷ 0 ∷ 0 ∷ 0 ∷ [])
+    ∷ recovers (0 ∷ 0 ∷ 0 ∷ 0 ∷ 0 ∷ 0 ∷ []) (200 ∷ 200 ∷ 200 ∷ 300 ∷ 300 ∷ 300 ∷ []) (200 ∷ 200 ∷ 200 ∷ 300 ∷ 300 ∷ 300 ∷ [])
+    -- a pitch 3 frames before a stretch or after it counts, and 4 frames off it does not
+    ∷ recovers (100 ∷ 0 ∷ 0 ∷ 0 ∷ 0 ∷ 0 ∷ []) (0 ∷ 0 ∷ 0 ∷ 200 ∷ 200 ∷ 200 ∷ []) (100 ∷ 0 ∷ 0 ∷ 0 ∷ 0 ∷ 0 ∷ [])
+    ∷ recovers (0 ∷ 0 ∷ 0 ∷ 0 ∷ 0 ∷ 100 ∷ []) (200 ∷ 200 ∷ 200 ∷ 0 ∷ 0 ∷ 0 ∷ []) (0 ∷ 0 ∷ 0 ∷ 0 ∷ 0 ∷ 100 ∷ [])
+    ∷ recovers (100 ∷ 0 ∷ 0 ∷ 0 ∷ 0 ∷ 0 ∷ 0 ∷ 0 ∷ 0 ∷ 0 ∷ 100 ∷ []) (0 ∷ 0 ∷ 0 ∷ 0 ∷ 200 ∷ 200 ∷ 200 ∷ 0 ∷ 0 ∷ 0 ∷ 0 ∷ []) (100 ∷ 0 ∷ 0 ∷ 0 ∷ 200 ∷ 200 ∷ 200 ∷ 0 ∷ 0 ∷ 0 ∷ 100 ∷ [])
     ∷ []

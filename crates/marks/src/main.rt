@@ -1,28 +1,27 @@
 // Reads a take file on standard input and prints the listing of its marks. An input that cannot be read, or a listing
 // that cannot be written, is told on standard error.
+use input::Input;
 use libc::STDERR_FILENO;
-use libc::STDIN_FILENO;
 use libc::STDOUT_FILENO;
 use report::least;
 ghost use mathlib.Core.Path.{_≡_};
-ghost use Prim.Native.Nat.{_-_, min};
+ghost use mathlib.Core.List.{List};
+ghost use Prim.Native.Nat.{ℕ, _≤_};
 ghost use lib.ListN.{length};
-ghost use lib.Seq.{paste};
+ghost use Rattle.take.specs.File.{largest};
+ghost use Rattle.take.specs.Listing.{largestListing};
+ghost use Rattle.input.specs.Held.{Holds};
+ghost use Rattle.input.specs.Reading.{Stopped};
+ghost use Rattle.lists.specs.Results.{Listed};
+ghost use Rattle.marks.specs.Answer.{textFor, longest, Answered};
 
 // The bytes of a file of 65,535 frames, the most that a head can name: no longer one agrees.
 const LONGEST: usize = 1_114_114;
 
-// The most bytes of one read.
-const CHUNK: usize = 65536;
-
-pub enum Got {
-    Failed,
-    Bytes(usize),
-}
-
-pub enum Input {
-    Failed,
-    Counted(usize),
+// What became of the input: it could not be read, or its listing has so many bytes.
+pub enum Outcome {
+    Unread,
+    Told(usize),
 }
 
 // Room for the largest take; the bytes past it are only counted.
@@ -39,78 +38,47 @@ fn blank_page() -> [u8; 237617]
     [0u8; 237617]
 }
 
-// How many of k bytes a file of `size` bytes still takes at `at`.
-fn room_for(size: usize, at: usize, k: usize) -> usize
-    ensures { λ r. ⌜ r ≡ min k (size - at) ⌝ }
+// Reads the input to its end, or until it has more bytes than agree with any head.
+fn read_file(file: &mut [u8]) -> Input
+    ensures { λ r. ⌜ Stopped longest (now (file .entry)) (now (file .exit)) r ⌝ }
 {
-    if at < size {
-        return least(k, size - at);
-    }
-    0
+    input::read_all(file, LONGEST)
 }
 
-// Keeps the bytes that came at `at` of a file, as far as there is room.
-fn keep(bytes: &[u8], file: &mut [u8], at: usize)
-    ensures { λ _. ⌜ now (file .exit) ≡ paste (now (file .entry)) at (now (bytes .entry)) (min (length (now (bytes .entry))) (length (now (file .entry)) - at)) ⌝ }
+// Writes what is printed for an input of which the file has the first bytes, and answers how many bytes that takes.
+fn tell(file: &[u8], total: usize, page: &mut [u8]) -> usize
+    requires { ⌜ largest ≤ length (now file) ⌝ }
+    requires { ⌜ largestListing ≤ length (now page) ⌝ }
+    ensures { λ r. ⌜ ((came : List ℕ) → Holds came (now (file .entry)) total → Listed (textFor came) (now (page .entry)) (now (page .exit)) r) ⌝ }
 {
-    let n = room_for(file.len(), at, bytes.len());
-    let mut i: usize = 0;
-    while i < n {
-        file[at + i] = bytes[i];
-        i += 1;
-    }
-}
-
-// Reads once, keeps what there is room for, and answers how many bytes came: 0 at the end of the input.
-fn read_some(file: &mut [u8], at: usize) -> Got {
-    let mut chunk = io::large_buffer();
-    let got = libc::read(STDIN_FILENO, &mut chunk);
-    if got < 0 {
-        return Got::Failed;
-    }
-    let n = io::count(got, &chunk);
-    keep(&chunk[..n], file, at);
-    Got::Bytes(n)
-}
-
-// Reads the input and counts its bytes, to its end or until there are more than agree with any head.
-fn read_all(file: &mut [u8]) -> Input {
-    let mut total: usize = 0;
-    while total <= LONGEST {
-        match read_some(file, total) {
-            Got::Failed => {
-                return Input::Failed;
-            }
-            Got::Bytes(n) => {
-                if n == 0 {
-                    return Input::Counted(total);
-                }
-                total += least(n, CHUNK);
-            }
-        }
-    }
-    Input::Counted(total)
-}
-
-// Prints what the file says.
-fn print_marks(file: &[u8], total: usize) {
-    let mut page = blank_page();
     let held = least(total, file.len());
-    let n = report::marks_of(&file[..held], total, &mut page);
-    if io::write_all(STDOUT_FILENO, &page[..n]) {
-        return;
+    report::marks_of(&file[..held], total, page)
+}
+
+// Reads the input and writes what is printed for it. Past the longest file that does not depend on what was left unread.
+fn answer(page: &mut [u8]) -> Outcome
+    requires { ⌜ largestListing ≤ length (now page) ⌝ }
+    ensures { λ r. ⌜ Answered (now (page .entry)) (now (page .exit)) r ⌝ }
+{
+    let mut file = blank_file();
+    match read_file(&mut file) {
+        Input::Failed => Outcome::Unread,
+        Input::Whole(total) => Outcome::Told(tell(&file, total, page)),
+        Input::Longer(total) => Outcome::Told(tell(&file, total, page)),
     }
-    io::write_all(STDERR_FILENO, b"marks: the listing could not be written\n");
 }
 
 fn main() {
-    let mut file = blank_file();
-    match read_all(&mut file) {
-        Input::Failed => {
+    let mut page = blank_page();
+    match answer(&mut page) {
+        Outcome::Unread => {
             io::write_all(STDERR_FILENO, b"marks: standard input could not be read\n");
         }
-        Input::Counted(total) => {
-            print_marks(&file, total);
+        Outcome::Told(n) => {
+            if io::write_all(STDOUT_FILENO, &page[..n]) {
+                return;
+            }
+            io::write_all(STDERR_FILENO, b"marks: the listing could not be written\n");
         }
     }
 }

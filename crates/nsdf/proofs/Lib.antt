@@ -1,12 +1,10 @@
 pub mod Whole
-pub mod Quotient
 pub mod Summing
 pub mod Differences
 pub mod Windows
 pub mod Literals
 pub mod Peaks
 pub mod Estimating
-pub mod Sizes
 pub mod Bounded
 pub mod Range
 pub mod Scaling

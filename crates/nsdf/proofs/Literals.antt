@@ -4,18 +4,6 @@ use mathlib.Core.Bool.{true}
 use lib.Ieee.{inf, binary64, ofBits, round, neg, div}
 use Rattle.nsdf.specs.Period.{near}
 
-pub half : ofBits binary64 0x3fe0_0000_0000_0000 ≡ near 1 2
-unfolding ofBits round
-half = refl
-
-pub two : ofBits binary64 0x4000_0000_0000_0000 ≡ near 2 1
-unfolding ofBits round
-two = refl
-
-pub nought : ofBits binary64 0 ≡ near 0 1
-unfolding ofBits round
-nought = refl
-
 pub six-tenths : ofBits binary64 0x3fe3_3333_3333_3333 ≡ near 6 10
 unfolding ofBits round
 six-tenths = refl

@@ -9,6 +9,8 @@ use lib.Dec.{T, lit<, lit≤}
 use lib.IntN.{ℤ, pos}
 use lib.Ieee.{Float, fin, binary64, round, add, mul, div, lt, le, ofInt}
 use lib.Ieee.Back.{round-whole}
+use Rattle.floats.specs.Sizes.{Within, Half, FromTo}
+use Rattle.floats.proofs.Sizes.{from-to-wider, from-to-le, add-from-to, div-from-to}
 use Rattle.nsdf.specs.declared.period.Estimate.{Estimate}
 use Rattle.nsdf.specs.declared.period.Estimate.the-variants.{Nothing, Hz}
 use Rattle.nsdf.specs.declared.period.Peak.{Peak}
@@ -16,27 +18,26 @@ use Rattle.nsdf.specs.declared.period.Peak.the-variants.{At, Missing}
 use Rattle.nsdf.specs.Nsdf.{window}
 use Rattle.nsdf.specs.Period.{near, at, clamped, shift, measured, refined, firstPeak, bestPeak, hertz, estimated, periodHz}
 use Rattle.nsdf.proofs.Peaks.{measured-at, peak-within}
-use Rattle.nsdf.proofs.Sizes.{Within, Half, Between, between-wider, between-le, add-between, div-between}
 use Rattle.nsdf.proofs.Bounded.{nsdf-within, shift-number, clamped-half}
 
 -- ---- the refined lag
 
-measured-within : (w : List ℤ) (k : ℕ) → k < 200 → Within (at (measured w) k) 1
-measured-within w k h = subst (λ (x : Float). Within x 1) (sym (measured-at w k h)) (nsdf-within w (31 + k))
+measured-within : (w : List ℤ) (k : ℕ) → k < 200 → Within 1 (at (measured w) k)
+measured-within w k h = subst (Within 1) (sym (measured-at w k h)) (nsdf-within w (31 + k))
 
 of-int : (n : ℕ) → ofInt binary64 (pos n) ≡ round binary64 false n 1
 unfolding ofInt
 of-int n = refl
 
-lag-between : (k : ℕ) (y : Float) → 0 < k → k < 199 → Half y → Between (add binary64 (ofInt binary64 (pos (31 + k))) y) 31 230
+lag-between : (k : ℕ) (y : Float) → 0 < k → k < 199 → Half y → FromTo 31 230 (add binary64 (ofInt binary64 (pos (31 + k))) y)
 lag-between k y g h p =
     let e : 31 + k ≡ suc (30 + k) = omega arith in
     let b : suc (suc (30 + k)) ≤ 230 = omega arith in
     let a : suc (30 + k) ≤ 230 = omega arith in
-    between-wider (add binary64 (ofInt binary64 (pos (31 + k))) y) (30 + k) (suc (suc (30 + k))) 31 230 (omega arith) b
-    (rw (of-int, e) (add-between binary64 (30 + k) (le-trans b (lit≤ tt)) (round binary64 false (suc (30 + k)) 1) y (round-whole binary64 false (suc (30 + k)) (le-trans a (lit≤ tt))) p))
+    from-to-wider (add binary64 (ofInt binary64 (pos (31 + k))) y) (30 + k) (suc (suc (30 + k))) 31 230 (omega arith) b
+    (rw (of-int, e) (add-from-to binary64 (30 + k) (le-trans b (lit≤ tt)) (round binary64 false (suc (30 + k)) 1) y (round-whole binary64 false (suc (30 + k)) (le-trans a (lit≤ tt))) p))
 
-refined-between : (w : List ℤ) (k : ℕ) → 0 < k → k < 199 → Between (refined (measured w) k) 31 230
+refined-between : (w : List ℤ) (k : ℕ) → 0 < k → k < 199 → FromTo 31 230 (refined (measured w) k)
 unfolding refined
 refined-between w k g h =
     let d = measured w in
@@ -46,7 +47,7 @@ refined-between w k g h =
 
 -- ---- the estimate
 
-hertz-between : (w : List ℤ) (least : Float) (p : Peak) (x : Float) → firstPeak (measured w) least ≡ p → hertz (measured w) p ≡ Hz x → Between x 69 517
+hertz-between : (w : List ℤ) (least : Float) (p : Peak) (x : Float) → firstPeak (measured w) least ≡ p → hertz (measured w) p ≡ Hz x → FromTo 69 517 x
 hertz-between w least Missing x q e = let z : _≡_ {A = ℕ} 0 1 = cc in absurd (never z)
   where
     never : _≡_ {A = ℕ} 0 1 → ⊥
@@ -54,18 +55,18 @@ hertz-between w least Missing x q e = let z : _≡_ {A = ℕ} 0 1 = cc in absurd
 hertz-between w least (At k) x q e =
     let r : div binary64 (near 16000 1) (refined (measured w) k) ≡ x = cc in
     let h = peak-within (measured w) least k q in
-    subst (λ (y : Float). Between y 69 517) r
-    (div-between binary64 16000 31 230 69 517 (lit< tt) (lit≤ tt) (lit≤ tt) (lit≤ tt) (lit≤ tt) (near 16000 1) (refined (measured w) k)
+    subst (FromTo 69 517) r
+    (div-from-to binary64 16000 31 230 69 517 (lit< tt) (lit≤ tt) (lit≤ tt) (lit≤ tt) (lit≤ tt) (near 16000 1) (refined (measured w) k)
     (round-whole binary64 false 16000 (lit≤ tt)) (refined-between w k (h .0) (h .1)))
 
-given : (t : Bool) (p : Estimate) (x : Float) → (p ≡ Hz x → Between x 69 517) → cond t Nothing p ≡ Hz x → Between x 69 517
+given : (t : Bool) (p : Estimate) (x : Float) → (p ≡ Hz x → FromTo 69 517 x) → cond t Nothing p ≡ Hz x → FromTo 69 517 x
 given true p x f e = let z : _≡_ {A = ℕ} 0 1 = cc in absurd (never z)
   where
     never : _≡_ {A = ℕ} 0 1 → ⊥
     never z = omega arith
 given false p x f e = f e
 
-pub period-between : (xs : List ℤ) (centre : ℕ) (x : Float) → periodHz xs centre ≡ Hz x → Between x 69 517
+pub period-between : (xs : List ℤ) (centre : ℕ) (x : Float) → periodHz xs centre ≡ Hz x → FromTo 69 517 x
 unfolding periodHz estimated
 period-between xs centre x e =
     let d = measured (window xs centre) in
@@ -73,4 +74,4 @@ period-between xs centre x e =
     given (lt (bestPeak d) (near 6 10)) (hertz d (firstPeak d least)) x (hertz-between (window xs centre) least (firstPeak d least) x refl) e
 
 pub period-range : (xs : List ℤ) (centre : ℕ) (x : Float) → periodHz xs centre ≡ Hz x → T (le (fin false 60 (pos 0)) x) × T (le x (fin false 600 (pos 0)))
-period-range xs centre x e = between-le x 60 600 (between-wider x 69 517 60 600 (lit≤ tt) (lit≤ tt) (period-between xs centre x e))
+period-range xs centre x e = from-to-le x 60 600 (from-to-wider x 69 517 60 600 (lit≤ tt) (lit≤ tt) (period-between xs centre x e))

@@ -12,7 +12,8 @@ use lib.ListN.{take, drop}
 use lib.Ieee.{Format, binary64, round}
 use lib.Ieee.Scale.{round-same}
 use borrow.Author.Tests.{ne-eqb}
-use Rattle.nsdf.specs.Nsdf.{cross, power, square, ratio, normalised, nsdf, window}
+use Rattle.floats.specs.Ratio.{ratio}
+use Rattle.nsdf.specs.Nsdf.{cross, power, square, normalised, nsdf, window}
 use Rattle.nsdf.specs.Period.{tabulate, measured, estimated, periodHz}
 use Rattle.nsdf.proofs.Whole.{abs-mul}
 use Rattle.nsdf.proofs.Peaks.{tabulate-same}

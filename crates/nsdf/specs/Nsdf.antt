@@ -1,11 +1,13 @@
 -- The normalised square-difference function of whole-number samples, and the part of a take that it is measured over. Definitions only.
 use Prim.Native.Nat.{ℕ, _+_, _-_, _*_}
-use mathlib.Core.Bool.{Bool, true, false, cond}
+use mathlib.Core.Bool.{cond}
 use mathlib.Core.List.{List, [], _∷_}
-use lib.IntN.{ℤ, pos, negsuc, natAbs, _+ℤ_, _*ℤ_}
+use lib.IntN.{ℤ, pos, natAbs, _+ℤ_, _*ℤ_}
 use lib.Dec.{eqb}
 use lib.ListN.{take, drop}
-use lib.Ieee.{Float, fin, Format, binary64, round}
+use lib.Ieee.{Float, binary64}
+use Rattle.floats.specs.Plain.{zeroF}
+use Rattle.floats.specs.Ratio.{ratio}
 
 -- the square of a sample
 abbrev pub square : ℤ → ℕ
@@ -23,18 +25,9 @@ power [] ys = 0
 power (x ∷ xs) [] = 0
 power (x ∷ xs) (y ∷ ys) = square x + square y + power xs ys
 
--- whether a whole number is below 0
-abbrev pub negative : ℤ → Bool
-negative (pos n) = false
-negative (negsuc n) = true
-
--- the fraction of two whole numbers, rounded once
-abbrev pub ratio : Format → ℤ → ℕ → Float
-ratio f a b = round f (negative a) (natAbs a) b
-
 -- twice the products over the squares, rounded once; 0 where there is no energy, as where there is no pair
 abbrev pub normalised : ℤ → ℕ → Float
-normalised products squares = cond (eqb squares 0) (fin false 0 (pos 0)) (ratio binary64 (pos 2 *ℤ products) squares)
+normalised products squares = cond (eqb squares 0) zeroF (ratio binary64 (pos 2 *ℤ products) squares)
 
 -- how well a window repeats at a lag: each sample makes a pair with the one a lag later
 unfoldable pub nsdf : List ℤ → ℕ → Float

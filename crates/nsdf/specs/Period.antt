@@ -5,6 +5,7 @@ use mathlib.Core.List.{List, [], _∷_, map, foldl}
 use lib.IntN.{ℤ, pos}
 use lib.ListN.{getD}
 use lib.Ieee.{Float, nan, inf, binary64, round, add, sub, mul, div, neg, lt, le, ofInt}
+use Rattle.floats.specs.Plain.{zeroF, half, two}
 use Rattle.lists.specs.Results.{keep}
 use Rattle.nsdf.specs.declared.period.Estimate.{Estimate}
 use Rattle.nsdf.specs.declared.period.Estimate.the-variants.{Nothing, Hz}
@@ -29,7 +30,7 @@ measured w = tabulate (nsdf w) 31 200
 abbrev pub at : List Float → ℕ → Float
 at d k = getD d k nan
 
--- above its left neighbour and not below its right
+-- higher than on its left, and at least as high as on its right
 abbrev pub isPeak : List Float → ℕ → Bool
 isPeak d k = lt (at d (k - 1)) (at d k) && le (at d (k + 1)) (at d k)
 
@@ -56,16 +57,16 @@ firstPeak d least = first (keep (isNear d least) 1 198)
 
 -- a - 2 b + c
 abbrev pub bend : Float → Float → Float → Float
-bend a b c = add binary64 (sub binary64 a (mul binary64 (near 2 1) b)) c
+bend a b c = add binary64 (sub binary64 a (mul binary64 two b)) c
 
 -- how far the top of the parabola through three values lies from the middle one; 0 where it has no top
 abbrev pub shift : Float → Float → Float → Float
 shift a b c =
-    cond (lt (bend a b c) (near 0 1)) (div binary64 (mul binary64 (near 1 2) (sub binary64 a c)) (bend a b c)) (near 0 1)
+    cond (lt (bend a b c) zeroF) (div binary64 (mul binary64 half (sub binary64 a c)) (bend a b c)) zeroF
 
 -- brought to -1/2 or 1/2 from outside
 abbrev pub clamped : Float → Float
-clamped x = cond (lt x (neg (near 1 2))) (neg (near 1 2)) (cond (lt (near 1 2) x) (near 1 2) x)
+clamped x = cond (lt x (neg half)) (neg half) (cond (lt half x) half x)
 
 -- the lag of the peak at k, moved to the top of the parabola through it and its neighbours
 unfoldable pub refined : List Float → ℕ → Float
@@ -76,7 +77,7 @@ abbrev pub hertz : List Float → Peak → Estimate
 hertz d Missing = Nothing
 hertz d (At k) = Hz (div binary64 (near 16000 1) (refined d k))
 
--- none where the best is below 0.6; else the first peak at or above 0.9 times the best
+-- none where the best is below 0.6; else by the first peak that reaches 0.9 of the best
 unfoldable pub estimated : List Float → Estimate
 estimated d = cond (lt (bestPeak d) (near 6 10)) Nothing (hertz d (firstPeak d (mul binary64 (near 9 10) (bestPeak d))))
 

@@ -45,7 +45,7 @@ fn measured(window: &[i16]) -> [f64; 200]
     d
 }
 
-// Above its left neighbour and not below its right.
+// Higher than on its left, and at least as high as on its right.
 fn is_peak(d: &[f64; 200], k: usize) -> bool
     requires { ⌜ (0 < k) × (k < 199) ⌝ }
     ensures { λ r. ⌜ r ≡ isPeak (now (d .entry)) k ⌝ }
@@ -133,7 +133,7 @@ fn refined(d: &[f64; 200], k: usize) -> f64
     (FIRST_LAG + k) as f64 + clamped(by)
 }
 
-// The pitch of the first peak at or above 0.9 times the best, rounded. None where the best is below 0.6 or there is no peak.
+// The pitch of the first peak that reaches 0.9 of the best, rounded. None where the best is below 0.6 or there is no peak.
 fn estimated(d: &[f64; 200]) -> Estimate
     ensures { λ r. ⌜ r ≡ estimated (now (d .entry)) ⌝ }
 {

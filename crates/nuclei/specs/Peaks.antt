@@ -22,7 +22,7 @@ someNear t n i = someFrame t (i - 2) (min (i + 3) n - (i - 2))
 unfoldable pub pitchNear : List Float → ℕ → Bool
 pitchNear pitch i = someNear (voiced pitch) (length pitch) i
 
--- speech by the level: in the region, and at or above the threshold
+-- speech by the level: a frame of the region whose level reaches the threshold
 unfoldable pub speechByLevel : List Float → Bounds → ℕ → Bool
 speechByLevel s b i = inside (b .start) (b .end) i && le (b .threshold) (at s i)
 

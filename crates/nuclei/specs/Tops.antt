@@ -52,7 +52,7 @@ partEnd b r = min (r .last + 1) (b .end)
 unfoldable pub topOf : List Float → Bounds → Span → ℕ
 topOf s b r = argmaxMiddle s (partFirst b r) (partEnd b r - 1)
 
--- frame i is on the flank of a louder one: some frame within 2 of it is more than the dip louder
+-- frame i is on the flank of a louder one: up to 2 frames away some frame is louder by more than the dip
 unfoldable pub onFlank : List Float → Float → ℕ → Bool
 onFlank s dip i = someNear (λ j. lt (add binary32 (at s i) dip) (at s j)) (length s) i
 

@@ -86,8 +86,8 @@ fn smaller(a: usize, b: usize) -> usize
     if a < b { a } else { b }
 }
 
-// Writes the top of the run first..=last at the count n, if it has one, and returns the new count: the loudest frame of
-// its part of the region, the middle of a flat top. A run outside the region has none.
+// Writes the top of the run first..=last at the count n, if it has one, and returns the new count. The top is where the
+// run is loudest inside the region, of a flat stretch its middle; a run outside the region has none.
 fn push_top(
     s: &[f32],
     b: Bounds,

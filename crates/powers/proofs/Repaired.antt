@@ -1,17 +1,9 @@
 -- A pitch from 40 to 2,000 Hz that is halved or doubled as an f32 is from 20 to 4,000 Hz: rounding keeps the order. Assumes nothing.
-use mathlib.Core.Bool.{false}
 use lib.Dec.{T}
-use lib.IntN.{pos, negsuc}
-use lib.Ieee.{Float, fin, binary32, mul, le}
+use lib.Ieee.{Float, binary32, mul, le}
 use lib.Ieee.Positive.{positive, between, mul-mono, le-trans-positive}
+use Rattle.floats.specs.Plain.{half, two}
 use Rattle.powers.specs.Pitch.{hz, Between}
-
--- 0.5 and 2.0
-abbrev pub half : Float
-half = fin false 1 (negsuc 0)
-
-abbrev pub two : Float
-two = fin false 1 (pos 1)
 
 -- by any factor that takes the two bounds where they have to go
 scaled-admitted : (c : Float) → T (positive c) → T (le c c) → T (positive (mul binary32 (hz 40) c)) → T (positive (mul binary32 (hz 2000) c))

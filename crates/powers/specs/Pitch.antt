@@ -8,6 +8,8 @@ use lib.Ieee.{Float, fin, le}
 use lib.Ieee.Positive.{num, den}
 use Rattle.powers.specs.declared.pitch.Octave.{Octave}
 use Rattle.powers.specs.declared.pitch.Octave.the-variants.{Keep, Halve, Double}
+use Rattle.powers.specs.declared.pitch.Pitch.{Pitch}
+use Rattle.powers.specs.declared.pitch.Pitch.the-variants.{Unvoiced, Hz}
 
 -- n Hz
 abbrev pub hz : ℕ → Float
@@ -35,6 +37,16 @@ breaksIn x y = leb (2 * min x y ^ 4) (max x y ^ 4)
 abbrev pub breaksAt : Float → Float → Bool
 breaksAt p q = breaksIn (num p * den q) (num q * den p)
 
+-- what an entry of a track stands for: a pitch from 20 to 4,000 Hz, or none
+abbrev pub pitchOf : Float → Pitch
+pitchOf x = cond (between 20 4000 x) (Hz x) Unvoiced
+
+-- a break between what two entries stand for; there is none where one is no pitch
+abbrev pub breaksBetween : Pitch → Pitch → Bool
+breaksBetween (Hz p) (Hz q) = breaksAt p q
+breaksBetween (Hz p) Unvoiced = false
+breaksBetween Unvoiced q = false
+
 -- a step within 1.5 semitones: the larger to the 8th is at most twice the smaller to the 8th
 unfoldable pub stepIn : ℕ → ℕ → Bool
 stepIn x y = leb (max x y ^ 8) (2 * min x y ^ 8)
@@ -43,7 +55,7 @@ stepIn x y = leb (max x y ^ 8) (2 * min x y ^ 8)
 abbrev pub stepAt : Float → Float → Bool
 stepAt p q = stepIn (num p * den q) (num q * den p)
 
--- f beside the middle values a and b: halved if f⁴ > 8a²b², doubled if 8f⁴ < a²b², and kept otherwise
+-- f beside the middle values a and b: f⁴ > 8a²b² halves it, 8f⁴ < a²b² doubles it, and otherwise it is kept
 unfoldable pub octaveIn : ℕ → ℕ → ℕ → Octave
 octaveIn f a b = cond (ltb (8 * a ^ 2 * b ^ 2) (f ^ 4)) Halve (cond (ltb (8 * f ^ 4) (a ^ 2 * b ^ 2)) Double Keep)
 

@@ -1,40 +1,23 @@
 -- The chain over plain lists that stand for lists of records, and then over the records. Assumes nothing.
-use Prim.Native.Nat.{ℕ, zero, suc, min}
+use Prim.Native.Nat.{ℕ, min}
 use native.Mathlib.Omega.{arith}
 use mathlib.Core.Path.{_≡_, refl, sym, ap, ap₂, _∙_}
 use mathlib.Core.List.{List, _++_}
 use lib.ListN.{length, take, drop, length-map, length-take}
 use lib.Ieee.{Float}
 use Rattle.lists.specs.Results.{overlay}
-use Rattle.region.specs.Speech.{regionOf}
-use Rattle.region.specs.declared.Region.{Region}
-use Rattle.region.specs.declared.Region.the-variants.{Nowhere, Span}
 use Rattle.kiddwyr.specs.Chain as plain
-use Rattle.kiddwyr.specs.Chain.{Take, readingOf, readingIn, answered, pitchesOf}
+use Rattle.kiddwyr.specs.Chain.{Take, readingBy, answerBy}
 use Rattle.kiddwyr.specs.declared.chain.Marks.{Marks}
-use Rattle.records.specs.Records.{Noted, Lists, Left, refusalFor, readingBy, answerBy, readingFor, answerFor, chainOf, paired}
+use Rattle.kiddwyr.proofs.Demand3.{leaves-by, counts}
+use Rattle.records.specs.Records.{Noted, Lists, Left, refusalFor, readingFor, answerFor, chainOf, paired}
 use Rattle.records.specs.declared.Nucleus.{Nucleus}
 use Rattle.records.proofs.Rooms.{part-laid, laid-listed, chain-room}
 
 -- ---- the plain chain by its refusal number
-by-number : (t : Take) (l : plain.Lists) (n : ℕ) → plain.leaves t l n ≡ record { answer = answerBy t n; pitch = readingBy t n .pitch; lists = plain.written (readingBy t n) l }
-unfolding readingBy answerBy overlay
-by-number t l zero = refl
-by-number t l (suc k) = refl
-
 pub chain-is : (t : Take) (l : plain.Lists) (n : ℕ) → plain.refusalOf t l ≡ n → plain.chainOf t l ≡ record { answer = answerBy t n; pitch = readingBy t n .pitch; lists = plain.written (readingBy t n) l }
 unfolding plain.chainOf
-chain-is t l n e = ap (plain.leaves t l) e ∙ by-number t l n
-
--- ---- how many there are
-in-region : (db pitch voiced sonority : List Float) (t : Take) (reg : Region) → (answered (readingIn db pitch voiced sonority (t .settings) reg) .nuclei ≡ length (readingIn db pitch voiced sonority (t .settings) reg .nuclei)) × (answered (readingIn db pitch voiced sonority (t .settings) reg) .extras ≡ length (readingIn db pitch voiced sonority (t .settings) reg .extras))
-in-region db pitch voiced sonority t Nowhere = (refl, refl)
-in-region db pitch voiced sonority t (Span start end) = (refl, refl)
-
-pub counts : (t : Take) (n : ℕ) → (answerBy t n .nuclei ≡ length (readingBy t n .nuclei)) × (answerBy t n .extras ≡ length (readingBy t n .extras))
-unfolding readingBy answerBy readingOf
-counts t zero = in-region (t .db) (pitchesOf t) (t .voiced) (t .sonority) t (regionOf (t .db) (t .settings))
-counts t (suc k) = (refl, refl)
+chain-is t l n e = ap (plain.leaves t l) e ∙ leaves-by t l n
 
 -- ---- in plain lists
 module _ (t : Take) (room xroom k x : ℕ) (old : plain.Lists) (ek : k ≡ min room 2048) (ex : x ≡ min xroom 2048) where

@@ -1,15 +1,16 @@
 -- Nuclei as the records that a caller's list holds. Definitions only.
-use Prim.Native.Nat.{ℕ, zero, suc, _≤_}
+use Prim.Native.Nat.{ℕ, _≤_}
 use mathlib.Core.Path.{_≡_}
 use mathlib.Core.List.{List, [], _∷_, map}
-use lib.ListN.{length}
+use lib.ListN.{length, take}
 use lib.Ieee.{Float}
 use Rattle.lists.specs.Results.{overlay, Front}
 use Rattle.nuclei.specs.Nuclei as found
 use Rattle.nuclei.specs.Nuclei.{framesOf, strengthsOf}
 use Rattle.admit.specs.Refusals.{chainRefusal}
 use Rattle.kiddwyr.specs.Chain as plain
-use Rattle.kiddwyr.specs.Chain.{Take, Reading, readingOf, unmarked, answered, nothing}
+use Rattle.kiddwyr.specs.Chain.{Take, Reading, nothing, readingBy, answerBy}
+use Rattle.kiddwyr.specs.Promises.{Returned}
 use Rattle.kiddwyr.specs.declared.chain.Marks.{Marks}
 use Rattle.records.specs.declared.Nucleus.{Nucleus}
 
@@ -42,16 +43,6 @@ pub record Laid (ns : List found.Nucleus) (frames : List ℕ) (strengths : List 
 abbrev pub refusalFor : Take → ℕ → ℕ → ℕ → ℕ → ℕ
 refusalFor t nuclei extras edges bounds =
     chainRefusal (t .db) (t .pitch) (t .voiced) (t .sonority) (t .vowel) (length (t .samples)) (t .settings) nuclei nuclei extras extras edges bounds
-
--- by the refusal number: the reading of a take, or its pitches as they were and no marks
-unfoldable pub readingBy : Take → ℕ → Reading
-readingBy t zero = readingOf t
-readingBy t (suc k) = unmarked (t .pitch)
-
--- by the refusal number: the answer that the reading is given by, or the number
-unfoldable pub answerBy : Take → ℕ → Marks
-answerBy t zero = answered (readingOf t)
-answerBy t (suc k) = nothing (suc k)
 
 -- what a call reads
 abbrev pub readingFor : Take → ℕ → ℕ → ℕ → ℕ → Reading
@@ -91,6 +82,10 @@ pub record Left : Type 0 where
   pub pitch : List Float
   pub lists : Lists
 
+-- a refusal's number, and all as it was
+abbrev pub asLent : Take → Lists → ℕ → Left
+asLent t l number = record { answer = nothing number; pitch = t .pitch; lists = l }
+
 -- by the refusal number
 abbrev pub leaves : Take → Lists → ℕ → Left
 leaves t l number = record { answer = answerBy t number; pitch = readingBy t number .pitch; lists = written (readingBy t number) l }
@@ -98,3 +93,15 @@ leaves t l number = record { answer = answerBy t number; pitch = readingBy t num
 -- the whole chain
 unfoldable pub chainOf : Take → Lists → Left
 chainOf t l = leaves t l (refusalFor t (length (l .nuclei)) (length (l .extras)) (length (l .edges)) (length (l .bounds)))
+
+-- what a caller reads off a call
+abbrev pub returned : Left → Returned
+returned o =
+    record {
+      answer = o .answer;
+      pitch = o .pitch;
+      nuclei = framesIn (take (o .answer .nuclei) (o .lists .nuclei));
+      extras = framesIn (take (o .answer .extras) (o .lists .extras));
+      edges = take (o .answer .edges) (o .lists .edges);
+      boundaries = take (o .answer .boundaries) (o .lists .bounds);
+    }

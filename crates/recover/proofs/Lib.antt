@@ -7,4 +7,3 @@ pub mod Settling
 pub mod Whole
 pub mod Kept
 pub mod Scaled
-pub mod Known

@@ -1,31 +1,21 @@
 -- What a track, a list of marks and a list of held estimates say of a frame. Assumes nothing.
-use Prim.Native.Nat.{ℕ, zero, suc, _-_, _*_, _≤_, _<_}
-use native.Mathlib.Nat.{le-of-suc-le-suc, not-suc-le-zero, mul-pos}
+use Prim.Native.Nat.{ℕ, zero, suc, _-_, _≤_, _<_}
+use native.Mathlib.Nat.{le-of-suc-le-suc, not-suc-le-zero}
 use native.Mathlib.Omega.{arith}
 use mathlib.Core.Path.{_≡_, refl, sym, ap, _∙_, subst}
 use mathlib.Core.Bool.{Bool, true, false, cond}
 use mathlib.Core.List.{List, [], _∷_, map}
 use mathlib.Core.Logic.{inl, inr}
-use borrow.Author.Tests.{ne-eqb}
-use lib.Dec.{T, ltb→lt}
 use lib.ListN.{length, getD, List·getD-map, List·getD-eq-default}
-use lib.Ieee.{Float, nan, inf, fin, binary32, binary64, ofBits, eq, up, down, round}
-use lib.Ieee.Fits.{up-pos}
-use lib.Ieee.Positive.{positive, between}
+use lib.Ieee.{Float, nan, binary32, ofBits, eq, round}
+use lib.Ieee.Positive.{between}
 use Rattle.floats.specs.Narrow.{narrow}
+use Rattle.floats.proofs.Zeros.{zero-bits, positive-not-zero}
 use Rattle.nsdf.specs.declared.period.Estimate.{Estimate}
 use Rattle.nsdf.specs.declared.period.Estimate.the-variants.{Nothing, Hz}
 use Rattle.powers.specs.Pitch.{hz, Between}
 use Rattle.recover.specs.Estimates.{none, silent, held, readOf, Held}
 use Rattle.recover.specs.Recovered.{pitchOf}
-
-pub zero64 : ofBits binary64 0 ≡ none
-unfolding ofBits
-zero64 = refl
-
-zero32 : ofBits binary32 0 ≡ none
-unfolding ofBits
-zero32 = refl
 
 -- within a list the default does not matter
 pub getD-any : {A : Type 0} (l : List A) (i : ℕ) (d d′ : A) → i < length l → getD l i d ≡ getD l i d′
@@ -34,7 +24,7 @@ getD-any (x ∷ l) zero d d′ h = refl
 getD-any (x ∷ l) (suc i) d d′ h = getD-any l i d d′ (le-of-suc-le-suc h)
 
 pub silent-in : (pitch : List Float) (i : ℕ) → i < length pitch → eq (getD pitch i nan) (ofBits binary32 0) ≡ silent pitch i
-silent-in pitch i h = ap (eq (getD pitch i nan)) zero32 ∙ ap (λ (x : Float). eq x none) (getD-any pitch i nan none h)
+silent-in pitch i h = ap (eq (getD pitch i nan)) (zero-bits binary32 false) ∙ ap (λ (x : Float). eq x none) (getD-any pitch i nan none h)
 
 pub silent-out : (pitch : List Float) (i : ℕ) → length pitch ≤ i → true ≡ silent pitch i
 unfolding eq
@@ -50,19 +40,8 @@ not-both e =
     let z : _≡_ {A = ℕ} 0 1 = cc in
     omega arith
 
-positive-not-none : (x : Float) → T (positive x) → eq x none ≡ false
-unfolding eq
-positive-not-none nan p = absurd p
-positive-not-none (inf s) p = absurd p
-positive-not-none (fin true m e) p = absurd p
-positive-not-none (fin false m e) p =
-    let above : 0 < m * up e = mul-pos (ltb→lt 0 m p) (up-pos e) in
-    let apart : (u : ℕ) → 0 < u → u * 1 ≡ 0 * 1 * down e → ⊥ = λ u U q. omega arith in
-    rw (ne-eqb (m * up e * 1) (0 * 1 * down e) (apart (m * up e) above))
-
 not-none : (x : Float) → Between 60 600 x → eq x none ≡ false
-unfolding eq
-not-none x b = positive-not-none x (between (hz 60) x (hz 600) tt tt (b .0) (b .1))
+not-none x b = positive-not-zero x (between (hz 60) x (hz 600) tt tt (b .0) (b .1))
 
 -- what is held is what is read
 pub read-held : (e : Estimate) → ((x : Float) → e ≡ Hz x → Between 60 600 x) → readOf (held e) ≡ e

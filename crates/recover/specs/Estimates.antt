@@ -20,7 +20,7 @@ none = fin false 0 (pos 0)
 abbrev pub silent : List Float → ℕ → Bool
 silent pitch i = eq (getD pitch i none) none
 
--- frame i has no pitch, speech mark 1 and vowel mark 1; a mark that a list lacks reads as 0
+-- frame i is without pitch, and its marks of speech and of a vowel are both 1; a mark that a list lacks reads as 0
 abbrev pub tried : List Float → List ℕ → List ℕ → ℕ → Bool
 tried pitch speech vowel i = silent pitch i && (eqb (getD speech i 0) 1 && eqb (getD vowel i 0) 1)
 

@@ -44,7 +44,7 @@ unfoldable pub quiet : List Float → ℕ → ℕ → Bool
 quiet given i zero = true
 quiet given i (suc k) = silent given i && quiet given (suc i) k
 
--- a stretch from s to before e is recovered if it has 3 frames or more, and no pitch within 3 frames of either end
+-- a stretch from s to before e is recovered if it has 3 frames or more, and neither the 3 before it nor the 3 after it have a pitch
 abbrev pub island : List Float → ℕ → ℕ → Bool
 island given s e = leb 3 (e - s) && (quiet given (s - 3) (min 3 s) && quiet given e 3)
 

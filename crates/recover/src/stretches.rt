@@ -69,7 +69,8 @@ fn three_before(s: usize) -> usize
     s - 3
 }
 
-// Whether the stretch from s to before e is recovered: it has 3 frames or more, and no pitch within 3 frames of either end.
+// Whether the stretch from s to before e is recovered: it has 3 frames or more, and neither the 3 before it nor the 3
+// after it have a pitch.
 fn is_island(given: &[f32], s: usize, e: usize) -> bool
     requires { ⌜ s ≤ e ⌝ }
     requires { ⌜ e ≤ 2048 ⌝ }

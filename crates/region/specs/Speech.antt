@@ -52,7 +52,7 @@ abbrev pub lastOf : ℕ → List ℕ → ℕ
 lastOf z [] = z
 lastOf z (x ∷ xs) = lastOf x xs
 
--- the region of some speech frames, which must be 5 at least: from the first to one past the last
+-- the region of some speech frames, which must be 5 at least: it starts at the first and ends right after the last
 unfoldable pub regionIn : List ℕ → Region
 regionIn frames = cond (leb 5 (length frames)) (Span (getD frames 0 0) (lastOf 0 frames + 1)) Nowhere
 

@@ -1,4 +1,3 @@
-pub mod Known
 pub mod Inserting
 pub mod Places
 pub mod Middles

@@ -1,18 +1,17 @@
 -- What repair promises of a track whose pitches are from 40 to 2,000 Hz: as many frames (`length-repaired`, in Runs), the same voiced
 -- frames (`repaired-voiced`, `repaired-frames`), and pitches from 20 to 4,000 Hz (`repaired-pitches`). Assumes nothing.
-use Prim.Native.Nat.{ℕ, zero, suc, _+_, _-_, _*_, _≤_, _<_}
-use native.Mathlib.Nat.{mul-pos, zero-mul, mul-one}
+use Prim.Native.Nat.{ℕ, zero, suc, _+_, _-_, _≤_, _<_}
 use native.Mathlib.Omega.{arith}
 use mathlib.Core.Path.{_≡_, refl, sym, ap, ap₂, _∙_, subst}
-use mathlib.Core.Bool.{Bool, true, false, not, cond, _&&_}
-use mathlib.Core.List.{List, [], _∷_, map}
+use mathlib.Core.Bool.{Bool, true, false, not, cond}
+use mathlib.Core.List.{List, [], _∷_}
 use mathlib.Core.Logic.{_⊎_, inl, inr, ⊎-elim}
-use lib.Dec.{T, eqb, ltb, ltb→lt}
+use lib.Dec.{T, ltb}
 use lib.ListN.{length, getD, List·getD-eq-default}
-use lib.Ieee.{Float, nan, inf, fin, ofBits, ne, eq, up, down}
-use lib.Ieee.Fits.{up-pos}
+use lib.Ieee.{Float, nan, binary32, ne, eq}
 use lib.Ieee.Positive.{positive, between}
-use borrow.Author.Tests.{ltb-true, ltb-false, ne-eqb}
+use borrow.Author.Tests.{ltb-true, ltb-false}
+use Rattle.floats.proofs.Zeros.{zero-bits, positive-not-zero}
 use Rattle.lists.specs.Results.{keep, consIf}
 use Rattle.lists.specs.Marks.{member}
 use Rattle.lists.proofs.Entries.{each-at, at-each}
@@ -22,25 +21,24 @@ use Rattle.powers.specs.declared.pitch.Octave.{Octave}
 use Rattle.powers.specs.declared.pitch.Octave.the-variants.{Keep, Halve, Double}
 use Rattle.powers.proofs.Repaired.{halved-admitted, doubled-admitted}
 use Rattle.runs.specs.Runs.{none, voiced, voicedFrames, Span, longRuns}
-use Rattle.repair.specs.Repair.{Pitches, pitchAt, framesIn, neighbours, lowerMiddle, upperMiddle, shifted, beside, repairedIn, repairedAmong, repaired}
+use Rattle.repair.specs.Repair.{Pitches, pitchAt, framesIn, lowerMiddle, upperMiddle, shifted, beside, repairedIn, repairedAmong, repaired}
 use Rattle.repair.proofs.Middles.{wider}
 use Rattle.repair.proofs.Runs.{pitched-at, length-repaired, repaired-at}
 
 -- a pitch is not 0
 positive-voiced : (x : Float) → T (positive x) → ne x none ≡ true
-unfolding ne eq ofBits
-positive-voiced nan p = absurd p
-positive-voiced (inf s) p = absurd p
-positive-voiced (fin true m e) p = absurd p
-positive-voiced (fin false m e) p =
-    let h : 0 < m * up e = mul-pos (ltb→lt 0 m p) (up-pos e) in
-    let q : eqb (m * up e * 1) (0 * down e) ≡ false = ne-eqb (m * up e * 1) (0 * down e) (λ j. omega (arith, j, h, zero-mul (down e), mul-one (m * up e))) in
-    ap (λ (b : Bool). not (b && true)) q
+unfolding ne
+positive-voiced x p = ap not (ap (eq x) (zero-bits binary32 false) ∙ positive-not-zero x p)
 
 shifted-pitch : (o : Octave) (f : Float) → Between 40 2000 f → Between 20 4000 (shifted o f)
 shifted-pitch Keep f h = wider f h
 shifted-pitch Halve f h = halved-admitted f h
 shifted-pitch Double f h = doubled-admitted f h
+
+-- whatever it stands beside
+beside-pitch : (f : Float) (values : List Float) → Between 40 2000 f → Between 20 4000 (beside f values)
+unfolding beside
+beside-pitch f values h = shifted-pitch (octaveAt f (lowerMiddle values) (upperMiddle values)) f h
 
 keep-same : (s t : ℕ → Bool) → ((i : ℕ) → s i ≡ t i) → (i k : ℕ) → keep s i k ≡ keep t i k
 unfolding keep
@@ -53,17 +51,14 @@ module _ (pitch : List Float) (a : Pitches 40 2000 pitch) where
   Kept v i = (v ≡ pitchAt pitch i) ⊎ ((voiced pitch i ≡ true) × Between 20 4000 v)
 
   kept-among : (rs : List Span) (i : ℕ) → i < length pitch → Kept (repairedAmong pitch rs i) i
-  unfolding repairedAmong beside framesIn
+  unfolding repairedAmong framesIn
   kept-among [] i h = inl refl
   kept-among (r ∷ rs) i h = go (member (framesIn pitch r) i) refl (kept-among rs i h)
     where
-      near : List Float
-      near = map (pitchAt pitch) (neighbours (framesIn pitch r) i)
-
       go : (b : Bool) → member (framesIn pitch r) i ≡ b → Kept (repairedAmong pitch rs i) i → Kept (cond b (repairedIn pitch (framesIn pitch r) i) (repairedAmong pitch rs i)) i
       go true e k =
           let v = each-member (λ j. (r .first ≤ j) × (j < r .first + (r .last + 1 - r .first)) × (voiced pitch j ≡ true)) (framesIn pitch r) i (each-keep (voiced pitch) (r .first) (r .last + 1 - r .first)) e .2 in
-          inr (v, shifted-pitch (octaveAt (pitchAt pitch i) (lowerMiddle near) (upperMiddle near)) (pitchAt pitch i) (pitched-at 40 2000 pitch a i h v))
+          inr (v, beside-pitch (pitchAt pitch i) _ (pitched-at 40 2000 pitch a i h v))
       go false e k = k
 
   pub repaired-pitches : Pitches 20 4000 (repaired pitch)

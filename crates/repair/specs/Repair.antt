@@ -7,6 +7,7 @@ use mathlib.Core.Logic.{_⊎_}
 use lib.Dec.{ltb}
 use lib.ListN.{length, getD, take, drop}
 use lib.Ieee.{Float, nan, binary32, mul}
+use Rattle.floats.specs.Plain.{half, two}
 use Rattle.floats.specs.Total.{before}
 use Rattle.lists.specs.Results.{keep, filter}
 use Rattle.lists.specs.By.{Each, sortBy}
@@ -14,7 +15,6 @@ use Rattle.lists.specs.Marks.{member}
 use Rattle.powers.specs.Pitch.{Between, octaveAt}
 use Rattle.powers.specs.declared.pitch.Octave.{Octave}
 use Rattle.powers.specs.declared.pitch.Octave.the-variants.{Keep, Halve, Double}
-use Rattle.powers.proofs.Repaired.{half, two}
 use Rattle.runs.specs.Runs.{none, voiced, Span, longRuns}
 
 -- each entry of a track is +0.0, which is no pitch, or a pitch from lo to hi Hz

@@ -1,4 +1,4 @@
--- A search through runs for the nearest to a frame (`Searching`); and that `runOf` finds the nearest run within 2 frames, the earlier on a tie (`run-of-answers`).
+-- A search through runs for the nearest to a frame (`Searching`); and that `runOf` finds the nearest of the runs up to 2 frames away, of two as near the first (`run-of-answers`).
 -- Assumes nothing.
 use Prim.Native.Nat.{ℕ, _+_, _≤_, _<_}
 use native.Mathlib.Omega.{arith}

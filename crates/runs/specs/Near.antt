@@ -21,7 +21,7 @@ nearest at k d best (r ∷ rs) =
     let nearer = ltb (distance r at) d in
     nearest at (k + 1) (cond nearer (distance r at) d) (cond nearer (At k (r .first) (r .last)) best) rs
 
--- the nearest run within 2 frames, the earlier on a tie: its index, its first and its last frame
+-- the nearest of the runs up to 2 frames away, of two as near the first: its index, its first and its last frame
 unfoldable pub runOf : List Span → ℕ → Found
 runOf rs at = nearest at 0 3 Nothing rs
 

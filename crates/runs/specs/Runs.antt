@@ -38,7 +38,7 @@ joined r s = record { first = r .first; last = s .last; size = r .size + s .size
 unfoldable pub voicedRuns : List Float → List Run
 voicedRuns pitch = grouped close joined (map sole (voicedFrames pitch))
 
--- a run is long from 5 voiced frames
+-- with 5 voiced frames or more a run is long
 abbrev pub long : Run → Bool
 long r = leb 5 (r .size)
 

@@ -1,20 +1,17 @@
 -- Syllable runs: long runs, grouped unless the pitch breaks; and the gaps inside them. Definitions only.
 use Prim.Native.Nat.{ℕ}
-use mathlib.Core.Bool.{Bool, not, _&&_}
+use mathlib.Core.Bool.{Bool, not}
 use mathlib.Core.List.{List, [], _∷_, map}
 use lib.ListN.{getD}
 use lib.Ieee.{Float, nan}
-use Rattle.powers.specs.Pitch.{between, breaksAt}
+use Rattle.powers.specs.Pitch.{pitchOf, breaksBetween}
 use Rattle.lists.specs.Results.{filter}
 use Rattle.runs.specs.Grouped.{grouped}
 use Rattle.runs.specs.Runs.{Span, longRuns}
 
 -- the pitch moves 3 semitones or more from frame a to frame b; never where one of the two has no pitch of 20 to 4000 Hz
 unfoldable pub breaksFrom : List Float → ℕ → ℕ → Bool
-breaksFrom pitch a b =
-    let p = getD pitch a nan in
-    let q = getD pitch b nan in
-    between 20 4000 p && (between 20 4000 q && breaksAt p q)
+breaksFrom pitch a b = breaksBetween (pitchOf (getD pitch a nan)) (pitchOf (getD pitch b nan))
 
 -- no break from the last frame of a run to the first of the next
 abbrev pub unbroken : List Float → Span → Span → Bool
@@ -32,7 +29,7 @@ syllablesOf pitch rs = grouped (unbroken pitch) across rs
 unfoldable pub syllableRuns : List Float → List Span
 syllableRuns pitch = syllablesOf pitch (longRuns pitch)
 
--- a gap between two runs: the last frame before it and the first after it
+-- a gap between two runs, by the frames that it lies between
 pub record Gap : Type 0 where
   pub before : ℕ
   pub after : ℕ

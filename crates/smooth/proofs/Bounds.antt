@@ -12,9 +12,11 @@ use lib.Seq.{slice, length-slice}
 use lib.Ieee.{Float, nan, inf, fin, binary32, add, div, ofInt, isNan}
 use lib.Ieee.Scale.{finite}
 use Rattle.floats.specs.Plain.{zeroF, plainZero}
+use Rattle.floats.specs.Sizes.{Within}
+use Rattle.floats.proofs.Numbers.{add-number, div-whole-number}
+use Rattle.floats.proofs.Sizes.{add-within, div-within}
 use Rattle.lists.specs.By.{Each}
-use Rattle.smooth.specs.Level.{clean, window, sumOf, levelAt, Within}
-use Rattle.smooth.proofs.Rounding.{add-within, div-within, add-number, div-number}
+use Rattle.smooth.specs.Level.{clean, window, sumOf, levelAt}
 
 -- ---- the frames of a window
 module _ {A : Type 0} (P : A → Type 0) where
@@ -61,7 +63,7 @@ sum-number : (m : Float) (xs : List Float) → isNan m ≡ false → Each (λ x.
 sum-number m [] p h = p
 sum-number m (x ∷ xs) p h = sum-number (add binary32 m x) xs (add-number binary32 m x p (h .0)) (h .1)
 
-sum-within : (m : Float) (xs : List Float) (j k : ℕ) → j + k * length xs < 2 ^ 24 → Within j m → Each (Within k) xs → Within (j + k * length xs) (foldl (add binary32) m xs)
+sum-within : (m : Float) (xs : List Float) (j k : ℕ) → j + k * length xs ≤ 2 ^ 24 → Within j m → Each (Within k) xs → Within (j + k * length xs) (foldl (add binary32) m xs)
 sum-within m [] j k l p h = subst (λ (n : ℕ). Within n m) (omega (arith, mul-zero k)) p
 sum-within m (x ∷ xs) j k l p h =
     let e : j + k + k * length xs ≡ j + k * suc (length xs) = omega (arith, mul-suc k (length xs)) in
@@ -111,9 +113,9 @@ module _ (db : List Float) (i : ℕ) where
     level-number =
         let z : isNan zeroF ≡ false = unfold isNan in refl in
         let s : isNan (sumOf around) ≡ false = sum-number zeroF around z (in-window (λ x. finite x ≡ true) (map clean db) (i - 2) (min (i + 3) (length (map clean db))) (all-clean db)) in
-        plain-number quotient (div-number binary32 (sumOf around) (length around) (size .0) (omega (arith, size .1)) s)
+        plain-number quotient (div-whole-number binary32 (sumOf around) (length around) (size .0) (omega (arith, size .1)) s)
 
-    pub level-within : (k : ℕ) → 100 ≤ k → k * 5 < 2 ^ 24 → Each (λ d. finite d ≡ true → Within k d) db → Within k (levelAt db i)
+    pub level-within : (k : ℕ) → 100 ≤ k → k * 5 ≤ 2 ^ 24 → Each (λ d. finite d ≡ true → Within k d) db → Within k (levelAt db i)
     unfolding levelAt
     level-within k low high p =
         let n = length around in

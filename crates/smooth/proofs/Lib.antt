@@ -4,5 +4,4 @@ pub mod Order
 pub mod Best
 pub mod Walks
 pub mod Stretches
-pub mod Rounding
 pub mod Bounds

@@ -115,6 +115,6 @@ lower = further Min
 abbrev pub lowest : List Float → Float
 lowest = furthest Min
 
--- the valley between frames a and b is too shallow to part two peaks: its lowest frame is above the lower of the two, less the dip
+-- the valley from a to b is too shallow for two peaks: no value there falls as far as the dip below the lower of the two
 unfoldable pub shallow : List Float → ℕ → ℕ → Float → Bool
 shallow s a b dip = lt (sub binary32 (lower (at s a) (at s b)) dip) (lowest (slice a (b + 1) s))

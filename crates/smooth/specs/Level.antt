@@ -1,11 +1,11 @@
 -- The level of each frame: the mean of the up to five frames of dB that are centred on it. Definitions only.
-use Prim.Native.Nat.{ℕ, zero, suc, _+_, _-_, _*_, _≤_, min}
+use Prim.Native.Nat.{ℕ, zero, suc, _+_, _-_, min}
 use mathlib.Core.Bool.{true, cond}
 use mathlib.Core.List.{List, [], _∷_, _++_, map, foldl}
 use lib.IntN.{pos}
 use lib.ListN.{length, take, drop}
 use lib.Seq.{slice}
-use lib.Ieee.{Float, nan, inf, fin, binary32, up, down, add, div, ofInt}
+use lib.Ieee.{Float, fin, binary32, add, div, ofInt}
 use lib.Ieee.Scale.{finite}
 use Rattle.floats.specs.Plain.{zeroF, plainZero}
 
@@ -45,12 +45,6 @@ levels db = means (map clean db)
 -- the level of one frame
 unfoldable pub levelAt : List Float → ℕ → Float
 levelAt db i = meanOf (window (map clean db) i)
-
--- x is finite, and no larger in size than k
-abbrev pub Within : ℕ → Float → Type 0
-Within k nan = ⊥
-Within k (inf s) = ⊥
-Within k (fin s m e) = m * up e ≤ k * down e
 
 -- a list with another's entries in the places from a on and before b
 unfoldable pub replaced {ℓ} : {A : Type ℓ} → ℕ → ℕ → List A → List A → List A

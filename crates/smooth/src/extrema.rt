@@ -162,7 +162,7 @@ fn ends_at(s: &[f32], j: usize) -> bool
     }
 }
 
-// Writes the frames in lo..hi where s has a strict local extremum, in order, and returns how many they are.
+// Writes the strict local extrema of s that lie in lo..hi, as rising frames, and returns how many they are.
 // A flat one counts once, at its middle; where it has no neighbour, at either end of s, that side is no matter.
 pub fn local_extrema(s: &[f32], lo: usize, hi: usize, kind: Extremum, out: &mut [u32]) -> usize
     requires { ⌜ (length (now s) ≤ length (now out)) × (length (now s) ≤ 2048) ⌝ }
@@ -239,7 +239,7 @@ fn extremum_middle(s: &[f32], a: usize, b: usize, kind: Extremum) -> usize
     middle(best, flat_last(s, best, b))
 }
 
-// The frame in a..=b with the lowest value; of a flat minimum the middle of its first stretch.
+// Where s is lowest from a to b; of the frames with that value the middle of the first stretch.
 pub fn argmin_middle(s: &[f32], a: usize, b: usize) -> usize
     requires { ⌜ (a ≤ b) × (b < length (now s)) ⌝ }
     ensures { λ r. ⌜ r ≡ argminMiddle (now (s .entry)) a b ⌝ }
@@ -247,7 +247,7 @@ pub fn argmin_middle(s: &[f32], a: usize, b: usize) -> usize
     extremum_middle(s, a, b, Extremum::Min)
 }
 
-// The frame in a..=b with the highest value; of a flat maximum the middle of its first stretch.
+// Where s is highest from a to b; of the frames with that value the middle of the first stretch.
 pub fn argmax_middle(s: &[f32], a: usize, b: usize) -> usize
     requires { ⌜ (a ≤ b) × (b < length (now s)) ⌝ }
     ensures { λ r. ⌜ r ≡ argmaxMiddle (now (s .entry)) a b ⌝ }
@@ -255,8 +255,8 @@ pub fn argmax_middle(s: &[f32], a: usize, b: usize) -> usize
     extremum_middle(s, a, b, Extremum::Max)
 }
 
-// Whether the valley between frames a and b is too shallow to part two peaks: its lowest value is above
-// the lower of theirs, less the dip.
+// Whether the valley from a to b is too shallow for two peaks: no value there falls as far as the dip below the lower of
+// the two.
 pub fn shallow_valley(s: &[f32], a: usize, b: usize, dip: f32) -> bool
     requires { ⌜ (a ≤ b) × (b < length (now s)) ⌝ }
     ensures { λ r. ⌜ r ≡ shallow (now (s .entry)) a b dip ⌝ }

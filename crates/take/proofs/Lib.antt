@@ -4,4 +4,4 @@ pub mod Records
 pub mod Agreement
 pub mod Lines
 pub mod Sizes
-pub mod Known
+pub mod Cases

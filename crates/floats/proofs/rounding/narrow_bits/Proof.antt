@@ -104,7 +104,7 @@ returns-3 c =
     let e = b % 9223372036854775808 / 4503599627370496 in
     ap (ofBits binary32) (add-assoc (b / 9223372036854775808 * 2147483648) ((e - 897) * 8388608) (c .nearest2 .result))
     ∙ ap (λ (z : ℕ). ofBits binary32 (b / 9223372036854775808 * 2147483648 + ((e - 897) * 8388608 + z))) (c .nearest2 .ensures)
-    ∙ middle b (e - 897) (c .before .before .before .before .fits .b .fits) (split e (c .before .before .if2 .left)) (most e (c .before .if3 .taken))
+    ∙ middle b (e - 897) (c .before .before .before .before .fits .b .fits) (split e (c .before .before .if2 .left)) (most e (omega (arith, c .before .if3 .taken)))
 
 add-result-4 : tie.Need-add-result-4
 add-result-4 c = search needs

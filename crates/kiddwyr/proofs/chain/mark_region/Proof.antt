@@ -1,6 +1,5 @@
 -- `mark_region` meets its contract: extra candidates and boundaries are given the nuclei at the front of the list. Assumes nothing.
 use borrow.Author.Needs.{needs}
-use native.Mathlib.Omega.{arith}
 use Rattle.lists.proofs.Fill.{listed-fits, listed-count}
 use Rattle.kiddwyr.proofs.Marking.{lent-rises, told}
 use Rattle.kiddwyr.proofs.chain.mark_region.Statement.{statement}

@@ -4,8 +4,8 @@ use native.Mathlib.Omega.{arith}
 use borrow.Author.Needs.{needs}
 use lib.IntN.{pos}
 use lib.Ieee.{binary64}
+use Rattle.floats.proofs.Quotient.{in-float}
 use Rattle.nsdf.specs.Period.{refined}
-use Rattle.nsdf.proofs.Quotient.{in-float}
 use Rattle.nsdf.proofs.period.refined.Statement.{statement}
 use Rattle.nsdf.proofs.period.refined.Tie as tie
 

@@ -4,8 +4,8 @@ use lib.IntN.{pos, _*ℤ_}
 use lib.Ieee.{binary64, ofBits}
 use mir.Syntax.{w64}
 use mir.ValLaws.{toZ-ofZ}
+use Rattle.floats.proofs.Quotient.{in-float, div-ratio}
 use Rattle.nsdf.proofs.Whole.{twice-small, twice-fits, not-zero}
-use Rattle.nsdf.proofs.Quotient.{in-float, div-ratio}
 use Rattle.nsdf.proofs.periodicity.normalised.Statement.{statement}
 use Rattle.nsdf.proofs.periodicity.normalised.Tie as tie
 

@@ -1,5 +1,6 @@
 -- `nuclei::merging::louder` meets its contract. Assumes nothing.
 use borrow.Author.Needs.{needs}
+use lib.Ieee.{le}
 use Rattle.nuclei.specs.Nuclei.{louder}
 use Rattle.nuclei.proofs.merging.louder.Statement.{statement}
 use Rattle.nuclei.proofs.merging.louder.Tie as tie
@@ -17,7 +18,7 @@ shared-slice-read-if1-2 : tie.Need-shared-slice-read-if1-2
 shared-slice-read-if1-2 c = search needs
 
 returns : tie.Need-returns
-unfolding louder
+unfolding louder le
 returns c = rw (c .if1 .taken)
 
 returns-2 : tie.Need-returns-2

@@ -1,6 +1,7 @@
 -- `stretches::is_island` meets its contract, by the test that stops it. Assumes nothing.
 use borrow.Author.Needs.{needs}
 use Prim.Native.Nat.{_-_}
+use native.Mathlib.Omega.{arith}
 use mathlib.Core.Path.{sym, _∙_}
 use borrow.Author.Tests.{not-true, not-false}
 use Rattle.recover.proofs.Alone.{island-short, island-before, island-after}
@@ -11,7 +12,7 @@ sub-if1 : tie.Need-sub-if1
 sub-if1 c = search needs
 
 returns : tie.Need-returns
-returns c = island-short (c .before .before .args .given .now) (c .before .before .args .s) (c .before .before .args .e) (c .if1 .taken)
+returns c = island-short (c .before .before .args .given .now) (c .before .before .args .s) (c .before .before .args .e) (omega (arith, c .if1 .taken))
 
 three-before-requires : tie.Need-three-before-requires
 three-before-requires c κs = search needs

@@ -1,20 +1,18 @@
 -- `smooth::level::mean_of_five` meets its contract. Assumes nothing.
 use Prim.Native.Nat.{_+_, _-_}
 use mathlib.Core.Path.{_≡_, refl, ap₂, _∙_}
+use mathlib.Core.Bool.{false}
 use borrow.Author.Needs.{needs}
 use lib.IntN.{pos}
 use lib.ListN.{getD}
 use lib.Ieee.{Float, nan, binary32, add, div, ofBits, ofInt}
-use Rattle.floats.specs.Plain.{zeroF, plainZero}
+use Rattle.floats.specs.Plain.{plainZero}
+use Rattle.floats.proofs.Zeros.{zero-bits}
 use Rattle.smooth.proofs.Averages.{five}
 use Rattle.smooth.proofs.level.mean_of_five.Statement.{statement}
 use Rattle.smooth.proofs.level.mean_of_five.Tie as tie
 
--- the code's 0.0 and 5.0
-nought : ofBits binary32 0 ≡ zeroF
-unfolding ofBits
-nought = refl
-
+-- the code's 5.0
 number : ofBits binary32 1084227584 ≡ ofInt binary32 (pos 5)
 unfolding ofBits ofInt
 number = refl
@@ -69,7 +67,7 @@ returns c =
     let c₀ = c .before .before .before .before .before .before .before .args .c .now in
     let i = c .before .before .before .before .before .before .before .args .i in
     c .plain-zero .ensures
-    ∙ ap₂ (λ (z n : Float). plainZero (div binary32 (add binary32 (add binary32 (add binary32 (add binary32 (add binary32 z (getD c₀ (i - 2) nan)) (getD c₀ (i - 1) nan)) (getD c₀ i nan)) (getD c₀ (i + 1) nan)) (getD c₀ (i + 2) nan)) n)) nought number
+    ∙ ap₂ (λ (z n : Float). plainZero (div binary32 (add binary32 (add binary32 (add binary32 (add binary32 (add binary32 z (getD c₀ (i - 2) nan)) (getD c₀ (i - 1) nan)) (getD c₀ i nan)) (getD c₀ (i + 1) nan)) (getD c₀ (i + 2) nan)) n)) (zero-bits binary32 false) number
     ∙ five c₀ i (c .before .before .before .before .before .before .before .pre .0) (c .before .before .before .before .before .before .before .pre .1)
 
 pub mean-of-five-spec : {M : Type 1} → statement M

@@ -1,0 +1,22 @@
+-- What the program answers to its input. Definitions only.
+use Prim.Native.Nat.{ℕ, _+_, _*_}
+use mathlib.Core.List.{List}
+use lib.ListN.{length}
+use Rattle.lists.specs.Results.{Listed}
+use Rattle.report.specs.Shown.{printed}
+use Rattle.input.specs.Held.{joined}
+use Rattle.marks.specs.declared.Outcome.{Outcome}
+use Rattle.marks.specs.declared.Outcome.the-variants.{Unread, Told}
+
+-- what is printed for an input
+abbrev pub textFor : List ℕ → List ℕ
+textFor whole = printed whole (length whole)
+
+-- the bytes of the longest file whose head can agree: 65,535 frames
+abbrev pub longest : ℕ
+longest = 19 + 17 * 65535
+
+-- what is answered: the text of the input that the pieces are cut from
+abbrev pub Answered : List ℕ → List ℕ → Outcome → Type 0
+Answered old new Unread = Unit
+Answered old new (Told n) = (pieces : List (List ℕ)) × Listed (textFor (joined pieces)) old new n
