@@ -1,9 +1,12 @@
-//! Finds the static library of the Rattle side, where it is asked for.
+//! Finds the static library of the Rattle side, and plants the mistakes in files of our own, where
+//! that is asked for.
 
 use std::env;
 use std::path::Path;
 
 fn main() {
+    #[cfg(feature = "mistakes")]
+    lay::lay_own("judge", &["entry", "kinds", "take"]);
     println!("cargo::rerun-if-env-changed=KIDDWYR_LIBRARY");
     if env::var_os("CARGO_FEATURE_RATTLE").is_none() {
         return;

@@ -8,16 +8,35 @@ use std::ops::Range;
 
 /// The answer's bytes to an input of an entry's kind; nothing answers the other kinds.
 pub fn answer(kind: u8, input: &[u8]) -> Option<Vec<u8>> {
+    answer_in(kind, input, range)
+}
+
+/// The same with another region than the input's, where the entry takes one: a record's ends are of
+/// 32 bits, the bindings' of 64.
+pub fn answer_in(
+    kind: u8,
+    input: &[u8],
+    region_of: impl Fn((u32, u32)) -> Range<usize>,
+) -> Option<Vec<u8>> {
     let r = &mut Reader::new(input);
     let written = match kind {
         32 => stages::repair(r, repair),
         35 => stages::recovery(r, recover),
         36 => stages::speech_marks(r, speech_marks),
         37 => stages::region_entry(r, region),
-        40 => stages::nuclei(r, nuclei),
-        41 => stages::extras(r, extras),
-        42 => stages::boundaries_with(r, boundaries_with),
-        43 => stages::boundaries(r, boundaries),
+        40 => stages::nuclei(r, |db, pitch, s, region, list| {
+            nuclei(db, pitch, s, region_of(region), list)
+        }),
+        41 => stages::extras(r, |db, pitch, sonority, s, region, at, list, edges| {
+            let region = region_of(region);
+            extras(db, pitch, sonority, s, region, at, list, edges)
+        }),
+        42 => stages::boundaries_with(r, |db, pitch, voiced_p, s, region, at, list| {
+            boundaries_with(db, pitch, voiced_p, s, region_of(region), at, list)
+        }),
+        43 => stages::boundaries(r, |db, pitch, voiced_p, region, at, list| {
+            boundaries(db, pitch, voiced_p, region_of(region), at, list)
+        }),
         48 => stages::chain(r, chain),
         _ => None,
     };
@@ -89,11 +108,11 @@ fn nuclei(
     db: &[f32],
     pitch: &[f32],
     s: Settings,
-    region: (u32, u32),
+    region: Range<usize>,
     list: &mut [Mark],
 ) -> Answer<usize> {
     lend(list, |list| {
-        kiddwyr::nuclei(db, pitch, range(region), given(s), list).map_err(number)
+        kiddwyr::nuclei(db, pitch, region, given(s), list).map_err(number)
     })
 }
 
@@ -103,12 +122,12 @@ fn extras(
     pitch: &[f32],
     sonority: &[f32],
     s: Settings,
-    region: (u32, u32),
+    region: Range<usize>,
     nuclei: &[u32],
     list: &mut [Mark],
     edges: &mut [u32],
 ) -> Answer<(usize, usize)> {
-    let (region, nuclei, s) = (range(region), at(nuclei), given(s));
+    let (nuclei, s) = (at(nuclei), given(s));
     let counted = lend(list, |list| {
         kiddwyr::extras(db, pitch, sonority, region, &nuclei, s, list, edges)
     });
@@ -120,11 +139,11 @@ fn boundaries_with(
     pitch: &[f32],
     voiced_p: &[f32],
     s: Settings,
-    region: (u32, u32),
+    region: Range<usize>,
     nuclei: &[u32],
     list: &mut [u32],
 ) -> Answer<usize> {
-    let (region, nuclei, s) = (range(region), at(nuclei), given(s));
+    let (nuclei, s) = (at(nuclei), given(s));
     kiddwyr::boundaries_with(db, pitch, voiced_p, region, &nuclei, s, list).map_err(number)
 }
 
@@ -132,11 +151,11 @@ fn boundaries(
     db: &[f32],
     pitch: &[f32],
     voiced_p: &[f32],
-    region: (u32, u32),
+    region: Range<usize>,
     nuclei: &[u32],
     list: &mut [u32],
 ) -> Answer<usize> {
-    let (region, nuclei) = (range(region), at(nuclei));
+    let nuclei = at(nuclei);
     kiddwyr::boundaries(db, pitch, voiced_p, region, &nuclei, list).map_err(number)
 }
 

@@ -1,7 +1,7 @@
 //! The specification's own cases, and the smallest inputs of places where a natural reading goes
 //! wrong, run on the reference. Each says what comes out and what should.
 
-use crate::entry::{self, Answer, Given, Mark, Settings, DEFAULTS, PITCH};
+use crate::entry::{self, Answer, Given, Mark, Settings, BLANK, DEFAULTS, PITCH};
 use crate::take::{listing, Take};
 use std::fmt::Debug;
 use tonekit_f0::probe as f0;
@@ -144,13 +144,123 @@ pub fn below_the_chain() -> Take {
     )
 }
 
-/// A nucleus on the frame of an unpitched peak, which loses its mark.
+/// A peak without a pitch; a nucleus given there counts as a candidate.
 pub fn lost_mark() -> Take {
     let settings = Settings {
         margin: 0.0,
         ..DEFAULTS
     };
     take(settings, 1, |_| -20.0, |_| 0.0, |_| 0.5)
+}
+
+/// A nucleus at 14 within two frames of both runs, each of which splits.
+pub fn between_runs() -> Take {
+    take(
+        DEFAULTS,
+        30,
+        |_| -20.0,
+        |i| either(i < 13 || (16..29).contains(&i), 200.0, 0.0),
+        |i| either(i < 6 || (16..22).contains(&i), 0.75, 0.25),
+    )
+}
+
+/// Peaks without a pitch at 6 and 20; a quiet nucleus at 24 takes the second and then the first.
+pub fn merged_twice() -> Take {
+    take(
+        Settings {
+            margin: 0.0,
+            ..DEFAULTS
+        },
+        30,
+        |i| match i {
+            4..=8 | 18..=21 => -20.0,
+            9..=17 => -26.0,
+            _ => -40.0,
+        },
+        |_| 0.0,
+        |_| 0.75,
+    )
+}
+
+/// A peak at 11, two frames after the run that it holds and whose end is below the threshold; the part
+/// of the run that lies in a region from 4 on is loud enough by itself.
+pub fn held_from_outside() -> Take {
+    let settings = Settings {
+        margin: 90.0,
+        dip: 12.0,
+        gap: 6,
+    };
+    take(
+        settings,
+        17,
+        |i| match i {
+            0..=5 | 11..=13 => -20.0,
+            6..=10 => -80.0,
+            _ => -140.0,
+        },
+        |i| either(i < 10, 200.0, 0.0),
+        |_| 0.75,
+    )
+}
+
+/// A run on a slope, two frames before one that is louder by about 0.2 dB; the last bits of `dip`
+/// decide.
+pub fn slope(dip: f32) -> Take {
+    let settings = Settings {
+        margin: 0.0,
+        dip,
+        gap: 6,
+    };
+    take(
+        settings,
+        24,
+        |i| match i {
+            0..=9 => -32.25,
+            10..=16 => -31.75,
+            _ => -60.0,
+        },
+        |i| either((4..=9).contains(&i), 200.0, 0.0),
+        |_| 0.75,
+    )
+}
+
+/// A peak without a pitch whose mean sonority is a half but for the rounding of its sum.
+pub fn nearly_half() -> Take {
+    take(
+        DEFAULTS,
+        12,
+        |i| loudness((3..=7).contains(&i)),
+        |_| 0.0,
+        |i| [0.2, 0.7, 0.7, 0.6, 0.3][(i + 2) % 5],
+    )
+}
+
+/// Takes in which one bit decides: a level just below the threshold, with a pitch and without; a frame
+/// just above it; a sonority just below a half; a change of sonority just below 0.2.
+pub fn one_bit() -> [Take; 5] {
+    let margin = |margin: f32| Settings { margin, ..DEFAULTS };
+    let above = (-20.0f32).next_up();
+    let (half, fifth) = (0.5f32.next_down(), 0.2f32.next_down());
+    let just_below = margin(above + 20.0);
+    [
+        take(just_below, 1, |_| -20.0, |_| 200.0, |_| 0.75),
+        take(just_below, 1, |_| -20.0, |_| 0.0, |_| 0.75),
+        take(
+            margin(0.0),
+            2,
+            |i| either(i == 0, -20.0, above),
+            |_| 200.0,
+            |_| 0.75,
+        ),
+        take(margin(0.0), 1, |_| -20.0, |_| 0.0, |_| half),
+        take(
+            DEFAULTS,
+            14,
+            |_| -20.0,
+            |_| 200.0,
+            |i| either(i < 7, 0.0, fifth),
+        ),
+    ]
 }
 
 /// `speech` loud frames among 20.
@@ -193,11 +303,7 @@ fn k7() -> Vec<f64> {
 /// The extras entry on a take: frames, strengths and edges.
 fn extras(take: &Take, region: (u32, u32), nuclei: &[u32]) -> Answer<(Vec<Mark>, Vec<u32>)> {
     let n = take.db.len();
-    let blank = Mark {
-        frame: 0,
-        strength: 0.0,
-    };
-    let (mut list, mut edges) = (vec![blank; n], vec![0; n]);
+    let (mut list, mut edges) = (vec![BLANK; n], vec![0; n]);
     let (found, edged) = entry::extras(
         &take.db,
         &take.pitch,
@@ -213,6 +319,31 @@ fn extras(take: &Take, region: (u32, u32), nuclei: &[u32]) -> Answer<(Vec<Mark>,
 
 fn mark(frame: u32, strength: f32) -> Mark {
     Mark { frame, strength }
+}
+
+/// Frames of the nuclei that the entry finds in a region of a take.
+fn nuclei(take: &Take, region: (u32, u32)) -> Answer<Vec<u32>> {
+    let mut list = vec![BLANK; take.db.len()];
+    let found = entry::nuclei(&take.db, &take.pitch, take.settings, region, &mut list)?;
+    Ok(list[..found].iter().map(|m| m.frame).collect())
+}
+
+/// What comes of the takes in which one bit decides: nuclei, extras, speech marks, extras, splits.
+fn bits() -> (Vec<u32>, usize, [u8; 2], usize, usize) {
+    let [voiced, unvoiced, louder, dull, steady] = one_bit();
+    let count = |take: &Take, nuclei: &[u32]| {
+        let all = (0, take.db.len() as u32);
+        extras(take, all, nuclei).map_or(99, |found| found.0.len())
+    };
+    let mut marks = [9; 2];
+    let marked = entry::speech_marks(&louder.db, louder.settings, &mut marks);
+    (
+        nuclei(&voiced, (0, 1)).unwrap_or(vec![99]),
+        count(&unvoiced, &[]),
+        if marked == Ok(2) { marks } else { [9; 2] },
+        count(&dull, &[]),
+        count(&steady, &[1]),
+    )
 }
 
 /// Nuclei and boundaries of a listing.
@@ -358,6 +489,45 @@ pub fn all() -> Vec<Case> {
                 extras(&lost_mark(), (0, 1), &[0]),
                 Ok((vec![mark(0, 0.0)], vec![])),
             ),
+        ),
+        case(
+            "split",
+            "one nucleus for two runs",
+            same(
+                extras(&between_runs(), (0, 30), &[14]),
+                Ok((vec![mark(2, 0.0), mark(25, 0.0)], vec![6, 22])),
+            ),
+        ),
+        case(
+            "merge",
+            "two peaks into one nucleus",
+            same(
+                extras(&merged_twice(), (0, 30), &[24]),
+                Ok((vec![], vec![])),
+            ),
+        ),
+        case(
+            "run",
+            "held by a peak two frames after it",
+            same(nuclei(&held_from_outside(), (4, 17)), Ok(vec![11])),
+        ),
+        case(
+            "run",
+            "beside a frame louder by the dip as rounded, and by more",
+            same(
+                [0x3e4c_cc6a, 0x3e4c_cc2e].map(|dip| nuclei(&slope(f32::from_bits(dip)), (0, 17))),
+                [Ok(vec![9]), Ok(vec![])],
+            ),
+        ),
+        case(
+            "bit",
+            "a mean that rounding takes below a half",
+            same(extras(&nearly_half(), (3, 8), &[]), Ok((vec![], vec![]))),
+        ),
+        case(
+            "bit",
+            "one bit decides",
+            same(bits(), (vec![], 0, [0, 1], 0, 0)),
         ),
     ]
 }

@@ -41,6 +41,12 @@ pub struct Mark {
     pub strength: f32,
 }
 
+/// What a list may hold before a call.
+pub const BLANK: Mark = Mark {
+    frame: 0,
+    strength: 0.0,
+};
+
 impl From<&Nucleus> for Mark {
     fn from(n: &Nucleus) -> Self {
         Mark {
@@ -183,8 +189,7 @@ pub fn speech_marks(db: &[f32], settings: Settings, marks: &mut [u8]) -> Answer<
         rooms: &[(marks.len(), 0)],
         ..Given::default()
     })?;
-    let speech = tonekit_segment::speech_frames(&energy(db), &settings.params());
-    Ok(put(marks, speech.into_iter().map(u8::from)))
+    Ok(put(marks, marked(db, settings)))
 }
 
 /// The region, half-open, or none.
@@ -381,11 +386,7 @@ pub fn chain(
         ..Given::default()
     })?;
     repaired(pitch);
-    let speech: Vec<u8> = tonekit_segment::speech_frames(&energy(frames.db), &settings.params())
-        .into_iter()
-        .map(u8::from)
-        .collect();
-    recovered(pitch, samples, &speech, frames.vowel);
+    recovered(pitch, samples, &marked(frames.db, settings), frames.vowel);
     let Some(region) = found_region(frames.db, settings) else {
         return Ok(Found::default());
     };
@@ -443,6 +444,12 @@ fn write_back(track: &F0Track, pitch: &mut [f32]) {
     for (to, from) in pitch.iter_mut().zip(&track.frames) {
         *to = from.hz.unwrap_or(0.0);
     }
+}
+
+/// Speech marks, one for each frame.
+fn marked(db: &[f32], settings: Settings) -> Vec<u8> {
+    let speech = tonekit_segment::speech_frames(&energy(db), &settings.params());
+    speech.into_iter().map(u8::from).collect()
 }
 
 fn repaired(pitch: &mut [f32]) {

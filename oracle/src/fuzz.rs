@@ -1,11 +1,11 @@
 //! Random inputs, answered by both sides.
 
 use crate::bytes::hex;
+use crate::calls;
 use crate::generate;
 use crate::kinds::{Form, Kind};
 use crate::random::Random;
 use crate::rattle;
-use crate::stages;
 
 /// What came of comparing one kind.
 pub enum Outcome {
@@ -85,7 +85,7 @@ pub fn scaled(count: u64, seed: u64) -> Result<(u64, u64), u64> {
     let mut recovered = 0;
     for index in 0..count {
         let mut random = Random::of(seed, CHAIN, index);
-        let [silent, one, other] = stages::scaled(&mut random);
+        let [silent, one, other] = calls::scaled(&mut random);
         let answer = |input: &[u8]| rattle::answer(CHAIN, input);
         let first = answer(&one);
         if first != answer(&other) {
@@ -94,6 +94,43 @@ pub fn scaled(count: u64, seed: u64) -> Result<(u64, u64), u64> {
         recovered += u64::from(first != answer(&silent));
     }
     Ok((count, recovered))
+}
+
+/// Asks the bindings for answers to calls whose region is at least 2^32 at one end or both, though its
+/// lower 32 bits are a region that could be admitted: which is refused with 7 or a lower number. How
+/// many were asked, or the kind and the place of one that is answered otherwise.
+#[cfg(feature = "bindings")]
+pub fn wide(count: u64, seed: u64) -> Result<u64, (u8, u64)> {
+    let mut asked = 0;
+    for kind in [40, 41, 42, 43] {
+        let known = Kind::by_number(kind).expect("an entry's kind");
+        // The region's place in the input: behind the settings, where there are any.
+        let at = if kind == 43 { 0 } else { 12 };
+        for index in 0..count {
+            let mut r = Random::of(seed, kind, index);
+            let mut input = generate::input(kind, &mut r);
+            let end = |k: usize| {
+                let bytes = input[at + 4 * k..][..4].try_into().expect("four bytes");
+                u64::from(u32::from_be_bytes(bytes))
+            };
+            let turns = [(0, 1), (1, 0), (1, 1), (1, 2), (2, 1), (u32::MAX, u32::MAX)];
+            let (x, y) = r.pick(&turns);
+            let start = end(0) + (u64::from(x) << 32);
+            let end = end(1) + (u64::from(y) << 32);
+            // No frame lies beyond 32 bits, so that the largest number of them says the same.
+            for (k, v) in [start, end].into_iter().enumerate() {
+                let most = u32::try_from(v).unwrap_or(u32::MAX);
+                input[at + 4 * k..][..4].copy_from_slice(&most.to_be_bytes());
+            }
+            let wanted = known.answer(&input);
+            let region = |_| start as usize..end as usize;
+            if wanted != crate::bindings::answer_in(kind, &input, region) {
+                return Err((kind, index));
+            }
+            asked += 1;
+        }
+    }
+    Ok(asked)
 }
 
 /// The number of the chain's kind.

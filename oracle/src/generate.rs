@@ -2,10 +2,11 @@
 //! lies outside is the refusals' matter.
 
 use crate::bytes::Writer;
+use crate::calls;
 use crate::cases;
 use crate::entry::MAX_FRAMES;
+use crate::limits;
 use crate::random::Random;
-use crate::stages;
 
 /// A random input for the kind of this number.
 pub fn input(kind: u8, r: &mut Random) -> Vec<u8> {
@@ -19,7 +20,7 @@ pub fn full(kind: u8, r: &mut Random) -> Vec<u8> {
 
 fn sized(kind: u8, r: &mut Random, n: Option<usize>) -> Vec<u8> {
     if kind >= 32 {
-        return stages::input(kind, r, n);
+        return calls::input(kind, r, n);
     }
     let n = n.unwrap_or_else(|| length(r));
     let w = Writer::new();
@@ -78,7 +79,7 @@ pub fn length(r: &mut Random) -> usize {
         13..=55 => r.between(1, 48),
         56..=61 => r.between(49, 300),
         62 => r.between(301, MAX_FRAMES),
-        _ => MAX_FRAMES,
+        _ => r.between(MAX_FRAMES - 8, MAX_FRAMES),
     }
 }
 
@@ -470,7 +471,7 @@ fn level(r: &mut Random, n: usize) -> Vec<f32> {
 }
 
 /// A dip: any, or beside the depth of this part of a level, where the answer turns.
-fn dip_beside(r: &mut Random, s: &[f32]) -> f32 {
+pub fn dip_beside(r: &mut Random, s: &[f32]) -> f32 {
     let low = s.iter().copied().fold(f32::INFINITY, f32::min);
     let depth = s[0].min(s[s.len() - 1]) - low;
     match r.below(4) {
@@ -652,19 +653,21 @@ pub fn fixed(kind: u8) -> Vec<Vec<u8>> {
                 floats(&[-0.0]),
                 floats(&[39.0]),
             ],
-            stages::refused(kind),
+            limits::inputs(kind),
+            calls::refused(kind),
         ]
         .concat(),
         56 => [cases::k1(), k2, k3, cases::split_outside()]
             .iter()
             .map(|take| take.write())
+            .chain(limits::files())
             .collect(),
         33 => {
             // K7, of which the first four lags are asked for.
             let samples = [0, 1, 0, 2, 0, 1, 0, 2];
             vec![vec![], Writer::new().each(samples, Writer::u8).bytes]
         }
-        35..=48 => stages::fixed(kind),
+        35..=48 => calls::fixed(kind),
         _ => vec![],
     }
 }

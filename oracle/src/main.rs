@@ -2,6 +2,8 @@
 
 use judge::fuzz::Outcome;
 use judge::kinds::Kind;
+#[cfg(feature = "mistakes")]
+use judge::mistakes;
 use judge::{bench, cases, fuzz, pipe, rattle, replay, take};
 use std::io::{self, Read, Write};
 use std::process::ExitCode;
@@ -17,15 +19,25 @@ judge COMMAND
                                     number: the answers must be equal
   pipe PROGRAM COUNT SEED           a program on COUNT take files through pipes, and on an empty
                                     one, one of 7 bytes and one of 5 MB: it must print the listing
+  wide COUNT SEED                   COUNT calls of each entry that takes a region, through the Rust
+                                    bindings, with a region that 32 bits do not hold
+  mistakes [LIST]                   planted mistakes, one at a time: which of them the replay list
+                                    (crates/replay/stdin) does not notice
+  choose COUNT [KINDS]              of COUNT random inputs of each kind those that notice most, as the
+                                    lines of oracle/chosen.txt
   bench [WORDS]                     both sides' times, of stages and takes whose line holds WORDS
 KINDS are numbers, ranges of them or names of README.md's table, with commas between, or `all`.
-fuzz, scaled and bench ask the static library where it is linked (feature `rattle`), fuzz and scaled
-its Rust bindings under the feature `bindings`; the script `run` sees to that.
+fuzz, scaled and bench ask the static library where it is linked (feature `rattle`); fuzz, scaled and
+wide its Rust bindings under the feature `bindings`; mistakes and choose need the feature `mistakes`.
+The script `run` sees to that.
 Exit status: 0 all as it should be, 1 a case or a comparison failed, 2 bad usage.";
 
 /// The seed and the kinds of the replay list, where none are named.
 const SEED: u64 = 1;
 const SMALL: &str = "1-56";
+/// Where the gate keeps the list.
+#[cfg(feature = "mistakes")]
+const LIST: &str = concat!(env!("CARGO_MANIFEST_DIR"), "/../crates/replay/stdin");
 
 fn main() -> ExitCode {
     let words: Vec<String> = std::env::args().skip(1).collect();
@@ -58,6 +70,16 @@ fn run(words: &[&str]) -> Option<io::Result<bool>> {
         ["pipe", program, count, seed] => {
             run_pipe(program, count.parse().ok()?, seed.parse().ok()?)
         }
+        #[cfg(feature = "bindings")]
+        ["wide", count, seed] => run_wide(count.parse().ok()?, seed.parse().ok()?),
+        #[cfg(feature = "mistakes")]
+        ["mistakes"] => run_mistakes(LIST),
+        #[cfg(feature = "mistakes")]
+        ["mistakes", list] => run_mistakes(list),
+        #[cfg(feature = "mistakes")]
+        ["choose", count] => run_choose(count.parse().ok()?, "all")?,
+        #[cfg(feature = "mistakes")]
+        ["choose", count, kinds] => run_choose(count.parse().ok()?, kinds)?,
         ["bench", only @ ..] => {
             bench::table(&only.join(" "), |line| println!("{line}"));
             Ok(true)
@@ -104,6 +126,41 @@ fn run_scaled(count: u64, seed: u64) -> io::Result<bool> {
         }
     }
     Ok(found.is_ok())
+}
+
+#[cfg(feature = "bindings")]
+fn run_wide(count: u64, seed: u64) -> io::Result<bool> {
+    let found = fuzz::wide(count, seed);
+    match found {
+        Ok(calls) => {
+            println!("{calls} calls with a region beyond 32 bits refused as they should be")
+        }
+        Err((kind, index)) => {
+            println!("call {index} of kind {kind} and seed {seed} is answered otherwise with a region beyond 32 bits");
+        }
+    }
+    Ok(found.is_ok())
+}
+
+#[cfg(feature = "mistakes")]
+fn run_mistakes(list: &str) -> io::Result<bool> {
+    let list = std::fs::read(list)?;
+    mistakes::table(|line| println!("{line}"));
+    match mistakes::report(&list, |line| println!("{line}")) {
+        Some(explained) => Ok(explained),
+        None => {
+            println!("this is no list of records with the judge's own answers");
+            Ok(false)
+        }
+    }
+}
+
+#[cfg(feature = "mistakes")]
+fn run_choose(count: u64, kinds: &str) -> Option<io::Result<bool>> {
+    mistakes::choose(&Kind::by_words(kinds)?, count, SEED, |line| {
+        println!("{line}")
+    });
+    Some(Ok(true))
 }
 
 fn run_pipe(program: &str, count: u64, seed: u64) -> io::Result<bool> {

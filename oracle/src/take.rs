@@ -1,7 +1,7 @@
 //! The take file and the listing.
 
 use crate::bytes::{Reader, Writer};
-use crate::entry::{self, Frames, Lists, Mark, Settings, MAX_FRAMES};
+use crate::entry::{self, Frames, Lists, Settings, BLANK, MAX_FRAMES};
 use std::fmt::Write;
 
 /// Bytes that the length field counts: those of the head after it, and of a record.
@@ -106,12 +106,8 @@ pub fn listing(file: &[u8]) -> String {
 /// The chain without samples, as lines.
 fn marks(take: &Take) -> Result<String, u8> {
     let n = take.db.len();
-    let blank = Mark {
-        frame: 0,
-        strength: 0.0,
-    };
     let mut pitch = take.pitch.clone();
-    let (mut nuclei, mut extras) = (vec![blank; n], vec![blank; n]);
+    let (mut nuclei, mut extras) = (vec![BLANK; n], vec![BLANK; n]);
     let (mut edges, mut boundaries) = (vec![0; n], vec![0; n + 1]);
     let lists = Lists {
         nuclei: &mut nuclei,

@@ -97,8 +97,16 @@ fn replay_list_reads_back() {
         assert_eq!(kind.answer(input).as_deref(), Some(answer));
         seen[usize::from(number)] += 1;
     }
-    assert!(KINDS.iter().all(|k| seen[usize::from(k.number)] > 40));
+    assert!(KINDS.iter().all(|k| seen[usize::from(k.number)] > 8));
     assert_eq!(list, replay::list(1, &kinds));
+}
+
+/// What the gate replays is what is made here.
+#[test]
+fn replay_list_is_the_stored_one() {
+    let kinds: Vec<&Kind> = KINDS.iter().collect();
+    let stored = include_bytes!("../../crates/replay/stdin");
+    assert!(replay::list(1, &kinds) == stored[..]);
 }
 
 /// A list answer holds the entries past the count as they were.

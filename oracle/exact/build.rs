@@ -1,0 +1,4 @@
+fn main() {
+    #[cfg(feature = "mistakes")]
+    lay::lay_own("exact", &["powers"]);
+}
