@@ -40,6 +40,10 @@
 extern "C" {
 #endif
 
+/* The version of this header, as a text and as a number: 10,000 times its first part, 100 times the second, and the third. */
+#define KIDDWYR_VERSION "4.0.0"
+#define KIDDWYR_VERSION_NUMBER 40000
+
 /* The longest take, in frames and in samples. */
 #define KIDDWYR_MAX_FRAMES 2048
 #define KIDDWYR_MAX_SAMPLES 327680
@@ -106,6 +110,9 @@ struct kiddwyr_marks {
     size_t edges;
     size_t boundaries;
 };
+
+/* The version of the library, as KIDDWYR_VERSION_NUMBER has the header's. */
+uint32_t kiddwyr_version(void);
 
 /* Marks the frames of speech with 1 and all others with 0: n marks. Refuses with 1, 3, 4, 10. */
 struct kiddwyr_answer kiddwyr_speech_marks(

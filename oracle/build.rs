@@ -15,10 +15,10 @@ fn main() {
     let root = Path::new(env!("CARGO_MANIFEST_DIR")).join("..");
     let given = env::var_os("KIDDWYR_LIBRARY").unwrap_or_else(|| "target/staticlib".into());
     let folder = root.join(given);
-    let library = folder.join("libexports.a");
+    let library = folder.join("libcompare_answers.a");
     if !library.is_file() {
         println!(
-            "cargo::error=there is no {}: make it with `rt staticlib exports` in the project's \
+            "cargo::error=there is no {}: make it with `rt staticlib compare_answers` in the project's \
              root, or set KIDDWYR_LIBRARY to its folder, absolute or from the root.",
             library.display()
         );
@@ -26,5 +26,5 @@ fn main() {
     }
     println!("cargo::rerun-if-changed={}", library.display());
     println!("cargo::rustc-link-search=native={}", folder.display());
-    println!("cargo::rustc-link-lib=static=exports");
+    println!("cargo::rustc-link-lib=static=compare_answers");
 }

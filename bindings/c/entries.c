@@ -76,6 +76,7 @@ int main(void)
 {
     struct kiddwyr_settings s = KIDDWYR_DEFAULTS;
     const struct kiddwyr_nucleus given = {15, NAN};
+    CHECK(kiddwyr_version() == KIDDWYR_VERSION_NUMBER);
     make_take();
     call_each(s, KIDDWYR_ADMITTED);
     s.gap = 1001;

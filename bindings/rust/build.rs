@@ -4,7 +4,7 @@ use std::env;
 use std::path::Path;
 
 /// The library's crate: `rt staticlib` names the archive after it.
-const STEM: &str = "records";
+const STEM: &str = "kiddwyr";
 
 fn main() {
     println!("cargo::rerun-if-env-changed=KIDDWYR_LIBRARY");

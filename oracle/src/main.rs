@@ -22,7 +22,7 @@ judge COMMAND
   wide COUNT SEED                   COUNT calls of each entry that takes a region, through the Rust
                                     bindings, with a region that 32 bits do not hold
   mistakes [LIST]                   planted mistakes, one at a time: which of them the replay list
-                                    (crates/replay/stdin) does not notice
+                                    (crates/compare_replay/stdin) does not notice
   choose COUNT [KINDS]              of COUNT random inputs of each kind those that notice most, as the
                                     lines of oracle/chosen.txt
   bench [WORDS]                     both sides' times, of stages and takes whose line holds WORDS
@@ -37,7 +37,7 @@ const SEED: u64 = 1;
 const SMALL: &str = "1-56";
 /// Where the gate keeps the list.
 #[cfg(feature = "mistakes")]
-const LIST: &str = concat!(env!("CARGO_MANIFEST_DIR"), "/../crates/replay/stdin");
+const LIST: &str = concat!(env!("CARGO_MANIFEST_DIR"), "/../crates/compare_replay/stdin");
 
 fn main() -> ExitCode {
     let words: Vec<String> = std::env::args().skip(1).collect();

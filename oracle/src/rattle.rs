@@ -79,15 +79,15 @@ pub fn stage(name: &str) -> Option<Stage> {
 
 /// The stages under their C names. Every take has 2,048 frames, as many values in every track, and
 /// the room as many entries in every list, which is all that the functions ask; a pitch is 0 or
-/// within 40 to 2,000 Hz.
+/// within 40 to 2,000 Hz. Settings are the defaults.
 #[cfg(feature = "rattle")]
 mod stages {
     use crate::bench::{Prepared, Room};
-    use crate::entry::{DEFAULTS, MAX_FRAMES};
+    use crate::entry::MAX_FRAMES;
     use std::hint::black_box;
 
     extern "C" {
-        fn judge_region(db: *const f32, frames: usize, margin: f32) -> u64;
+        fn judge_region(db: *const f32, frames: usize) -> u64;
         fn judge_level(db: *const f32, frames: usize, out: *mut f32, room: usize);
         fn judge_extrema(s: *const f32, frames: usize, out: *mut u32, room: usize) -> usize;
         fn judge_runs(
@@ -116,9 +116,6 @@ mod stages {
             pitch_len: usize,
             start: usize,
             end: usize,
-            margin: f32,
-            dip: f32,
-            gap: u32,
             list: *mut u32,
             list_room: usize,
             strengths: *mut f32,
@@ -135,9 +132,6 @@ mod stages {
             end: usize,
             nuclei: *const u32,
             nuclei_len: usize,
-            margin: f32,
-            dip: f32,
-            gap: u32,
             list: *mut u32,
             list_room: usize,
             strengths: *mut f32,
@@ -156,9 +150,6 @@ mod stages {
             end: usize,
             nuclei: *const u32,
             nuclei_len: usize,
-            margin: f32,
-            dip: f32,
-            gap: u32,
             out: *mut u32,
             room: usize,
         ) -> usize;
@@ -175,9 +166,6 @@ mod stages {
             vowel_len: usize,
             samples: *const i16,
             samples_len: usize,
-            margin: f32,
-            dip: f32,
-            gap: u32,
             list: *mut u32,
             list_room: usize,
             strengths: *mut f32,
@@ -238,9 +226,6 @@ mod stages {
                 t.pitch.len(),
                 t.region.0 as usize,
                 t.region.1 as usize,
-                DEFAULTS.margin,
-                DEFAULTS.dip,
-                DEFAULTS.gap,
                 room.frames.as_mut_ptr(),
                 room.frames.len(),
                 room.floats.as_mut_ptr(),
@@ -264,9 +249,6 @@ mod stages {
                 t.region.1 as usize,
                 t.nuclei.as_ptr(),
                 t.nuclei.len(),
-                DEFAULTS.margin,
-                DEFAULTS.dip,
-                DEFAULTS.gap,
                 room.extras.as_mut_ptr(),
                 room.extras.len(),
                 room.strengths.as_mut_ptr(),
@@ -292,9 +274,6 @@ mod stages {
                 t.region.1 as usize,
                 t.nuclei.as_ptr(),
                 t.nuclei.len(),
-                DEFAULTS.margin,
-                DEFAULTS.dip,
-                DEFAULTS.gap,
                 room.boundaries.as_mut_ptr(),
                 room.boundaries.len(),
             )
@@ -318,9 +297,6 @@ mod stages {
                 t.vowel.len(),
                 t.samples.as_ptr(),
                 t.samples.len(),
-                DEFAULTS.margin,
-                DEFAULTS.dip,
-                DEFAULTS.gap,
                 room.frames.as_mut_ptr(),
                 room.frames.len(),
                 room.floats.as_mut_ptr(),
@@ -340,7 +316,7 @@ mod stages {
 
     pub fn region(t: &Prepared, _: &mut Room) {
         // SAFETY: the pointer comes with the length of a live slice of at most 2,048 frames.
-        black_box(unsafe { judge_region(t.db.as_ptr(), t.db.len(), DEFAULTS.margin) });
+        black_box(unsafe { judge_region(t.db.as_ptr(), t.db.len()) });
     }
 
     pub fn level(t: &Prepared, room: &mut Room) {

@@ -105,7 +105,7 @@ fn replay_list_reads_back() {
 #[test]
 fn replay_list_is_the_stored_one() {
     let kinds: Vec<&Kind> = KINDS.iter().collect();
-    let stored = include_bytes!("../../crates/replay/stdin");
+    let stored = include_bytes!("../../crates/compare_replay/stdin");
     assert!(replay::list(1, &kinds) == stored[..]);
 }
 

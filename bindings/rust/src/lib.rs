@@ -57,6 +57,16 @@ use std::ops::Range;
 
 mod raw;
 
+/// The version of this crate.
+pub const VERSION: &str = env!("CARGO_PKG_VERSION");
+
+/// The version of the library that is linked: 10,000 times its first part, 100 times the second, and the
+/// third.
+pub fn version() -> u32 {
+    // SAFETY: the function takes nothing and answers a number.
+    unsafe { raw::kiddwyr_version() }
+}
+
 /// The longest take, in frames.
 pub const MAX_FRAMES: usize = 2048;
 /// The longest sound, in samples.

@@ -36,6 +36,8 @@ pub struct Marks {
 }
 
 extern "C" {
+    pub fn kiddwyr_version() -> u32;
+
     pub fn kiddwyr_speech_marks(
         db: *const f32,
         db_len: usize,

@@ -226,6 +226,12 @@ fn spoiled(number: u32) -> Call {
 }
 
 #[test]
+fn the_crate_has_the_version_of_its_library() {
+    let parts = kiddwyr::VERSION.split('.').map(|part| part.parse::<u32>().unwrap());
+    assert_eq!(kiddwyr::version(), parts.fold(0, |number, part| 100 * number + part));
+}
+
+#[test]
 fn k1_through_the_chain() {
     let mut call = k1();
     let marks = Marks {

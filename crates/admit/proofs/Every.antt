@@ -3,7 +3,7 @@ use Prim.Native.Nat.{ℕ, _+_, _<_, _≤_}
 use native.Mathlib.Numerals.{add-one}
 use native.Mathlib.Omega.{arith}
 use mathlib.Core.Path.{_≡_, refl, sym, _∙_}
-use mathlib.Core.Bool.{Bool, true, false, _&&_}
+use mathlib.Core.Bool.{Bool, true, false, _&&_, and-assoc}
 use mathlib.Core.List.{List, [], _∷_}
 use lib.Dec.{leb, ltb}
 use lib.ListN.{length, getD, drop, drop-of-length-le}
@@ -13,10 +13,6 @@ use Rattle.lists.specs.By.{Each}
 use Rattle.lists.specs.Sorted.{StrictlyRises}
 use Rattle.lists.proofs.Tests.{and-cases}
 use Rattle.admit.specs.Values.{allOf, rising}
-
-regroup : (a b c : Bool) → (a && (b && c)) ≡ (a && b && c)
-regroup true b c = refl
-regroup false b c = refl
 
 whole : (a b : Bool) → b ≡ true → (a && b) ≡ a
 whole true b h = h
@@ -31,9 +27,9 @@ module _ {A : Type 0} {t : A → Bool} {xs : List A} where
   pub tested-start : Tested t xs true 0
   tested-start = record { within = omega arith; split = refl }
 
-  pub tested-turn : {good : Bool} {i : ℕ} (next : Bool) (d : A) → i < length xs → Tested t xs good i → next ≡ (good && t (getD xs i d)) → Tested t xs next (i + 1)
+  pub tested-turn : {good b : Bool} {i : ℕ} (d : A) → i < length xs → Tested t xs good i → b ≡ t (getD xs i d) → Tested t xs (good && b) (i + 1)
   unfolding allOf
-  tested-turn {good} {i} next d l h e = record { within = omega arith; split = rw (e, add-one i, ← regroup) (rw (drop-cons xs i d l) at (h .split)) }
+  tested-turn {good} {b} {i} d l h e = record { within = omega arith; split = rw (e, add-one i, and-assoc) (rw (drop-cons xs i d l) at (h .split)) }
 
   pub tested-end : {good : Bool} {i : ℕ} → length xs ≤ i → Tested t xs good i → good ≡ allOf t xs
   unfolding allOf
@@ -55,9 +51,9 @@ module _ {n : ℕ} {xs : List ℕ} where
   pub rising-start : Rising n xs true 0 0
   rising-start = record { within = omega arith; split = refl }
 
-  pub rising-turn : {good : Bool} {lo i : ℕ} (next : Bool) (lo′ : ℕ) → i < length xs → Rising n xs good lo i → next ≡ (good && (leb lo (getD xs i 0) && ltb (getD xs i 0) n)) → lo′ ≡ getD xs i 0 + 1 → Rising n xs next lo′ (i + 1)
+  pub rising-turn : {good b : Bool} {lo next i : ℕ} → i < length xs → Rising n xs good lo i → b ≡ (leb lo (getD xs i 0) && ltb (getD xs i 0) n) → next ≡ getD xs i 0 + 1 → Rising n xs (good && b) next (i + 1)
   unfolding rising
-  rising-turn {good} {lo} {i} next lo′ l h e f = record { within = omega arith; split = rw (e, f, add-one i, ← regroup) (rw (drop-cons xs i 0 l) at (h .split)) }
+  rising-turn {good} {b} {lo} {next} {i} l h e f = record { within = omega arith; split = rw (e, f, add-one i, and-assoc) (rw (drop-cons xs i 0 l) at (h .split)) }
 
   pub rising-end : {good : Bool} {lo i : ℕ} → length xs ≤ i → Rising n xs good lo i → good ≡ rising 0 n xs
   unfolding rising

@@ -1,4 +1,4 @@
 pub mod Ranges
 pub mod Every
-pub mod Refusing
+pub mod First
 pub mod Admitted

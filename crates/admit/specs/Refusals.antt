@@ -1,132 +1,111 @@
--- The refusal number of each entry: document 01's table, as far as it is about what the entry is given. Definitions only.
-use Prim.Native.Nat.{ℕ}
-use mathlib.Core.Bool.{Bool, true, false, _&&_}
-use mathlib.Core.List.{List}
-use lib.Dec.{leb, ltb, eqb}
+-- The refusals of the specification: its table, and what each entry is given. Definitions only.
+use Prim.Native.Nat.{ℕ, suc}
+use mathlib.Core.Bool.{Bool, _&&_}
+use mathlib.Core.List.{List, [], _∷_, map}
+use lib.Dec.{leb, eqb}
 use lib.ListN.{length}
 use lib.Ieee.{Float}
+use Rattle.region.specs.Defaults.{defaults}
 use Rattle.region.specs.declared.Settings.{Settings}
-use Rattle.admit.specs.Values.{dbAdmitted, pitchAdmitted, shareAdmitted, markAdmitted, settingsAdmitted, allOf, rising}
+use Rattle.admit.specs.Values.{number, within, dbAdmitted, pitchAdmitted, shareAdmitted, markAdmitted, allOf, rising}
+use Rattle.admit.specs.First.{Test, firstFailed}
 
--- a refusal's number where its test fails, else what the later tests say; 0 stands for admission
-unfoldable pub refuse : ℕ → Bool → ℕ → ℕ
-refuse number true later = later
-refuse number false later = number
+-- what an entry may be given, as far as it is tested; n is how many frames it has
+pub data Given : Type 0 where
+  Size Gap Samples : ℕ → Given
+  Alike Room : (n m : ℕ) → Given
+  Margin Dip : Float → Given
+  Db Voiced Sonority : List Float → Given
+  Pitch : (lo hi : ℕ) → List Float → Given
+  Marks : List ℕ → Given
+  Region : (start end n : ℕ) → Given
+  Nuclei : (n : ℕ) → List ℕ → Given
 
--- the length of a track, of marks or of a list of nuclei
-abbrev pub short : ℕ → Bool
-short n = leb n 2048
+abbrev test : ℕ → Bool → Test
+test number passed = record { number = number; passed = passed }
 
--- pitches where the repair takes them
-abbrev pub repairable : List Float → Bool
-repairable = allOf (pitchAdmitted 40 2000)
+-- the table: the number of each refusal, and what passes
+unfoldable pub tested : Given → Test
+tested (Size m) = test 1 (leb m 2048)
+tested (Alike n m) = test 2 (eqb m n)
+tested (Margin x) = test 3 (within (number 0) (number 200) x)
+tested (Dip x) = test 3 (within (number 0) (number 200) x)
+tested (Gap k) = test 3 (leb k 1000)
+tested (Db track) = test 4 (allOf dbAdmitted track)
+tested (Pitch lo hi track) = test 5 (allOf (pitchAdmitted (number lo) (number hi)) track)
+tested (Voiced track) = test 5 (allOf shareAdmitted track)
+tested (Sonority track) = test 6 (allOf shareAdmitted track)
+tested (Marks marks) = test 6 (allOf markAdmitted marks)
+tested (Region start end n) = test 7 (leb start end && leb end n)
+tested (Nuclei n frames) = test 8 (rising 0 n frames)
+tested (Samples m) = test 9 (leb m 327680)
+tested (Room n m) = test 10 (leb n m)
 
--- pitches elsewhere
-abbrev pub pitched : List Float → Bool
-pitched = allOf (pitchAdmitted 20 4000)
+-- the order in which the numbers are tested
+abbrev pub order : List ℕ
+order = 1 ∷ 2 ∷ 3 ∷ 4 ∷ 5 ∷ 6 ∷ 7 ∷ 8 ∷ 9 ∷ 10 ∷ []
 
--- a region in n frames
-abbrev pub inside : ℕ → ℕ → ℕ → Bool
-inside start end n = leb start end && leb end n
+-- the number of a call's refusal, 0 for none
+unfoldable pub refusal : List Given → ℕ
+refusal given = firstFailed order (map tested given)
 
--- a region in n frames and then nuclei, before the later tests
-abbrev pub regionAndNuclei : ℕ → ℕ → List ℕ → ℕ → ℕ → ℕ
-regionAndNuclei start end nuclei n later = refuse 7 (inside start end n) (refuse 8 (rising 0 n nuclei) later)
+abbrev pub settings : Settings → List Given
+settings p = Margin (p .margin) ∷ Dip (p .dip) ∷ Gap (p .gap) ∷ []
 
--- at most the samples that 2,048 frames have
-abbrev pub fewSamples : ℕ → Bool
-fewSamples samples = leb samples 327680
-
--- speech marks
+-- speech marks, by the length of their list
 unfoldable pub speechRefusal : List Float → Settings → ℕ → ℕ
-speechRefusal db p marks =
-    refuse 1 (short (length db))
-    (refuse 3 (settingsAdmitted p)
-    (refuse 4 (allOf dbAdmitted db)
-    (refuse 10 (leb (length db) marks)
-    0)))
+speechRefusal db p marks = refusal (Size (length db) ∷ Db db ∷ Room (length db) marks ∷ settings p)
 
 -- the region
 unfoldable pub regionRefusal : List Float → Settings → ℕ
-regionRefusal db p =
-    refuse 1 (short (length db))
-    (refuse 3 (settingsAdmitted p)
-    (refuse 4 (allOf dbAdmitted db)
-    0))
+regionRefusal db p = refusal (Size (length db) ∷ Db db ∷ settings p)
 
 -- repaired pitch
 unfoldable pub repairRefusal : List Float → ℕ
-repairRefusal pitch =
-    refuse 1 (short (length pitch))
-    (refuse 5 (repairable pitch)
-    0)
+repairRefusal pitch = refusal (Size (length pitch) ∷ Pitch 40 2000 pitch ∷ [])
 
 -- recovered pitch, by the number of samples
 unfoldable pub recoveryRefusal : List Float → ℕ → List ℕ → List ℕ → ℕ
 recoveryRefusal pitch samples speech vowel =
-    refuse 1 (short (length pitch) && short (length speech) && short (length vowel))
-    (refuse 5 (pitched pitch)
-    (refuse 6 (allOf markAdmitted speech && allOf markAdmitted vowel)
-    (refuse 9 (fewSamples samples)
-    0)))
+    refusal
+    (Size (length pitch) ∷ Size (length speech) ∷ Size (length vowel)
+    ∷ Pitch 20 4000 pitch ∷ Marks speech ∷ Marks vowel ∷ Samples samples ∷ [])
 
 -- nuclei, by the lengths of their two lists
 unfoldable pub nucleiRefusal : List Float → List Float → ℕ → ℕ → Settings → ℕ → ℕ → ℕ
 nucleiRefusal db pitch start end p frames strengths =
-    refuse 1 (short (length db) && short (length pitch))
-    (refuse 2 (eqb (length pitch) (length db))
-    (refuse 3 (settingsAdmitted p)
-    (refuse 4 (allOf dbAdmitted db)
-    (refuse 5 (pitched pitch)
-    (refuse 7 (inside start end (length db))
-    (refuse 10 (leb (length db) frames && leb (length db) strengths)
-    0))))))
+    let n = length db in
+    refusal
+    (Size n ∷ Size (length pitch) ∷ Alike n (length pitch)
+    ∷ Db db ∷ Pitch 20 4000 pitch ∷ Region start end n ∷ Room n frames ∷ Room n strengths ∷ settings p)
 
--- extra candidates, by the lengths of their two lists and of the edges
+-- extra candidates, by the lengths of their two lists and of the edges; a sonority of another length is admitted
 unfoldable pub extrasRefusal : List Float → List Float → List Float → ℕ → ℕ → List ℕ → Settings → ℕ → ℕ → ℕ → ℕ
 extrasRefusal db pitch sonority start end nuclei p frames strengths edges =
-    refuse 1 (short (length db) && short (length pitch) && short (length sonority) && short (length nuclei))
-    (refuse 2 (eqb (length pitch) (length db))
-    (refuse 3 (settingsAdmitted p)
-    (refuse 4 (allOf dbAdmitted db)
-    (refuse 5 (pitched pitch)
-    (refuse 6 (allOf shareAdmitted sonority)
-    (regionAndNuclei start end nuclei (length db)
-    (refuse 10 (leb (length db) frames && leb (length db) strengths && leb (length db) edges)
-    0)))))))
+    let n = length db in
+    refusal
+    (Size n ∷ Size (length pitch) ∷ Size (length sonority) ∷ Size (length nuclei) ∷ Alike n (length pitch)
+    ∷ Db db ∷ Pitch 20 4000 pitch ∷ Sonority sonority ∷ Region start end n ∷ Nuclei n nuclei
+    ∷ Room n frames ∷ Room n strengths ∷ Room n edges ∷ settings p)
 
--- boundaries under the defaults, by the length of their list, which needs one more than n
-unfoldable pub boundariesRefusal : List Float → List Float → List Float → ℕ → ℕ → List ℕ → ℕ → ℕ
-boundariesRefusal db pitch voiced start end nuclei bounds =
-    refuse 1 (short (length db) && short (length pitch) && short (length voiced) && short (length nuclei))
-    (refuse 2 (eqb (length pitch) (length db) && eqb (length voiced) (length db))
-    (refuse 4 (allOf dbAdmitted db)
-    (refuse 5 (pitched pitch && allOf shareAdmitted voiced)
-    (regionAndNuclei start end nuclei (length db)
-    (refuse 10 (ltb (length db) bounds)
-    0)))))
-
--- boundaries under given settings
+-- boundaries under given settings, by the length of their list, which needs one more than n
 unfoldable pub boundariesWithRefusal : List Float → List Float → List Float → ℕ → ℕ → List ℕ → Settings → ℕ → ℕ
 boundariesWithRefusal db pitch voiced start end nuclei p bounds =
-    refuse 1 (short (length db) && short (length pitch) && short (length voiced) && short (length nuclei))
-    (refuse 2 (eqb (length pitch) (length db) && eqb (length voiced) (length db))
-    (refuse 3 (settingsAdmitted p)
-    (refuse 4 (allOf dbAdmitted db)
-    (refuse 5 (pitched pitch && allOf shareAdmitted voiced)
-    (regionAndNuclei start end nuclei (length db)
-    (refuse 10 (ltb (length db) bounds)
-    0))))))
+    let n = length db in
+    refusal
+    (Size n ∷ Size (length pitch) ∷ Size (length voiced) ∷ Size (length nuclei) ∷ Alike n (length pitch) ∷ Alike n (length voiced)
+    ∷ Db db ∷ Pitch 20 4000 pitch ∷ Voiced voiced ∷ Region start end n ∷ Nuclei n nuclei ∷ Room (suc n) bounds ∷ settings p)
+
+-- boundaries under the defaults, which pass
+unfoldable pub boundariesRefusal : List Float → List Float → List Float → ℕ → ℕ → List ℕ → ℕ → ℕ
+boundariesRefusal db pitch voiced start end nuclei bounds = boundariesWithRefusal db pitch voiced start end nuclei defaults bounds
 
 -- the chain, by the number of samples and the lengths of the lists of nuclei (frames, strengths), extras (frames, strengths), edges and boundaries
 unfoldable pub chainRefusal : List Float → List Float → List Float → List Float → List ℕ → ℕ → Settings → ℕ → ℕ → ℕ → ℕ → ℕ → ℕ → ℕ
 chainRefusal db pitch voiced sonority vowel samples p frames strengths xframes xstrengths edges bounds =
-    refuse 1 (short (length db) && short (length pitch) && short (length voiced) && short (length sonority) && short (length vowel))
-    (refuse 2 (eqb (length pitch) (length db) && eqb (length voiced) (length db))
-    (refuse 3 (settingsAdmitted p)
-    (refuse 4 (allOf dbAdmitted db)
-    (refuse 5 (repairable pitch && allOf shareAdmitted voiced)
-    (refuse 6 (allOf shareAdmitted sonority && allOf markAdmitted vowel)
-    (refuse 9 (fewSamples samples)
-    (refuse 10 (leb (length db) frames && leb (length db) strengths && leb (length db) xframes && leb (length db) xstrengths && leb (length db) edges && ltb (length db) bounds)
-    0)))))))
+    let n = length db in
+    refusal
+    (Size n ∷ Size (length pitch) ∷ Size (length voiced) ∷ Size (length sonority) ∷ Size (length vowel)
+    ∷ Alike n (length pitch) ∷ Alike n (length voiced)
+    ∷ Db db ∷ Pitch 40 2000 pitch ∷ Voiced voiced ∷ Sonority sonority ∷ Marks vowel ∷ Samples samples
+    ∷ Room n frames ∷ Room n strengths ∷ Room n xframes ∷ Room n xstrengths ∷ Room n edges ∷ Room (suc n) bounds ∷ settings p)

@@ -1,4 +1,4 @@
--- What is admitted of a value, of every entry of a list, and of the settings. Definitions only.
+-- What is admitted of a value and of every entry of a list. Definitions only.
 use Prim.Native.Nat.{ℕ, _+_}
 use mathlib.Core.Bool.{Bool, true, not, _&&_, _||_}
 use mathlib.Core.List.{List, [], _∷_}
@@ -7,39 +7,30 @@ use lib.Dec.{leb, ltb, eqb}
 use lib.Ieee.{Float, binary32, ofInt, toBits, le}
 use lib.Ieee.Scale.{finite}
 use Rattle.floats.specs.Plain.{magnitude}
-use Rattle.region.specs.declared.Settings.{Settings}
 
 -- a whole number as an f32
 abbrev pub number : ℕ → Float
 number n = ofInt binary32 (pos n)
 
 -- from lo to hi, both admitted; a NaN is nowhere
-abbrev pub within : ℕ → ℕ → Float → Bool
-within lo hi x = le (number lo) x && le x (number hi)
+abbrev pub within : Float → Float → Float → Bool
+within lo hi x = le lo x && le x hi
 
 -- dB: finite within -1,000 to 1,000, or not finite
 unfoldable pub dbAdmitted : Float → Bool
-dbAdmitted d = not (finite d) || within 0 1000 (magnitude d)
+dbAdmitted d = not (finite d) || within (number 0) (number 1000) (magnitude d)
 
--- +0.0, which is no pitch, by its bits: those of -0.0 are others
-abbrev pub isNone : Float → Bool
-isNone x = eqb (toBits binary32 x) 0
-
--- a pitch: +0.0, or from lo to hi Hz
-unfoldable pub pitchAdmitted : ℕ → ℕ → Float → Bool
-pitchAdmitted lo hi x = isNone x || within lo hi x
+-- a pitch: +0.0, which is none, by its bits, since those of -0.0 are others; or from lo to hi Hz
+unfoldable pub pitchAdmitted : Float → Float → Float → Bool
+pitchAdmitted lo hi x = eqb (toBits binary32 x) 0 || within lo hi x
 
 -- a share, as `voiced_p` and sonority are: 0 to 1
 abbrev pub shareAdmitted : Float → Bool
-shareAdmitted = within 0 1
+shareAdmitted = within (number 0) (number 1)
 
 -- a mark: 0 or 1
 abbrev pub markAdmitted : ℕ → Bool
 markAdmitted m = leb m 1
-
--- margin and dip from 0 to 200 dB, the gap at most 1,000 frames
-unfoldable pub settingsAdmitted : Settings → Bool
-settingsAdmitted p = within 0 200 (p .margin) && within 0 200 (p .dip) && leb (p .gap) 1000
 
 -- every entry passes
 unfoldable pub allOf : {A : Type 0} → (A → Bool) → List A → Bool

@@ -19,10 +19,11 @@ use Rattle.lists.proofs.Entries.{each-map, each-of-map}
 use Rattle.lists.proofs.Sorting.{sorted-only}
 use Rattle.lists.proofs.Members.{member-append, each-member, in-order-sorted}
 use Rattle.boundaries.specs.Keeping.{clear, tryAdd, addAll, ends}
-use Rattle.boundaries.specs.Taken.{cells, Taken, Added, framesIn}
+use Rattle.boundaries.specs.Taken.{cells, Taken, Added, takenFrames}
 use Rattle.boundaries.specs.Promises.{Near}
 use Rattle.boundaries.proofs.Adding.{Far, clear-yes, clear-no, add-append}
-use Rattle.boundaries.proofs.Spreading.{getD-zeros, flag-is}
+use Rattle.lists.proofs.Marking.{flag-is}
+use Rattle.boundaries.proofs.Spreading.{getD-zeros}
 
 -- ---- cells
 member-cells : (kept : List ℕ) (x : ℕ) → member (cells kept) (x + 2) ≡ member kept x
@@ -204,7 +205,7 @@ ends-two start end {m} n h g t =
     (mark-more (mark-more t start h) end g)
 
 -- ---- the frames in order
-pub in-order : (kept m : List ℕ) (c n : ℕ) → Taken kept m c → Each (λ x. x ≤ n) kept → Once kept → framesIn m n ≡ sorted kept
+pub in-order : (kept m : List ℕ) (c n : ℕ) → Taken kept m c → Each (λ x. x ≤ n) kept → Once kept → takenFrames m n ≡ sorted kept
 unfolding inOrder
 in-order kept m c n t h o =
     ap (λ (f : ℕ → Bool). keep f 0 (n + 1)) (fun-ext (λ x. ap (λ (v : ℕ). eqb v 1) (t .marks (x + 2)) ∙ flag-is (member (cells kept) (x + 2)) ∙ member-cells kept x))

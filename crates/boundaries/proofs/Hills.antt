@@ -2,12 +2,11 @@
 use Prim.Native.Nat.{ℕ, zero, suc, _+_, _-_, _≤_, _<_}
 use native.Mathlib.Omega.{arith}
 use mathlib.Core.Path.{_≡_, refl}
-use mathlib.Core.Bool.{Bool, true, false}
+use mathlib.Core.Bool.{true, false}
 use mathlib.Core.List.{List}
 use lib.ListN.{length}
 use lib.Ieee.{Float, le}
-use Rattle.smooth.specs.Extrema.{at}
-use Rattle.boundaries.specs.Edges.{allFrom}
+use Rattle.lists.specs.Frames.{at}
 use Rattle.boundaries.specs.Minima.{climbLeft, climbRight}
 
 module _ (s : List Float) where
@@ -37,17 +36,3 @@ module _ (s : List Float) where
   pub right-over : (r : ℕ) → length s ≤ r + 1 → climbRight s r (length s - (r + 1)) ≡ r
   unfolding climbRight
   right-over r h = let d : length s - (r + 1) ≡ 0 = omega arith in rw d
-
--- ---- a stretch of frames that all pass
-module _ (t : ℕ → Bool) (i b : ℕ) where
-  pub all-on : i < b → t i ≡ true → allFrom t i (b - i) ≡ allFrom t (i + 1) (b - (i + 1))
-  unfolding allFrom
-  all-on h e = let d : b - i ≡ suc (b - (i + 1)) = omega arith in rw (d, e)
-
-  pub all-stop : i < b → t i ≡ false → allFrom t i (b - i) ≡ false
-  unfolding allFrom
-  all-stop h e = let d : b - i ≡ suc (b - (i + 1)) = omega arith in rw (d, e)
-
-  pub all-over : b ≤ i → allFrom t i (b - i) ≡ true
-  unfolding allFrom
-  all-over h = let d : b - i ≡ 0 = omega arith in rw d

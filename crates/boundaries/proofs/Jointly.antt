@@ -1,7 +1,7 @@
 -- Joints: their cases, the run that a nucleus belongs to, and the walk over neighbouring nuclei. Assumes nothing.
 use Prim.Native.Nat.{ℕ, _+_, _*_, _≤_, _<_}
 use native.Mathlib.Omega.{arith}
-use native.Mathlib.Nat.{le-trans}
+use native.Mathlib.Nat.{le-trans, le-of-lt}
 use mathlib.Core.Path.{_≡_, refl, sym, ap, subst, _∙_}
 use mathlib.Core.Bool.{Bool, true, false, not, _&&_, cond}
 use mathlib.Core.List.{List, [], _∷_, _++_}
@@ -13,30 +13,23 @@ use Rattle.lists.specs.Results.{consIf, filter}
 use Rattle.lists.specs.By.{Each}
 use Rattle.lists.specs.Sorted.{StrictlyRises}
 use Rattle.lists.proofs.Tests.{and-cases, and-both}
-use Rattle.lists.proofs.Fill.{drop-step, filter-le}
-use Rattle.lists.proofs.Entries.{each-at, each-map, each-filter}
-use Rattle.lists.proofs.Members.{strict-at, strict-each}
+use Rattle.lists.proofs.Fill.{drop-step, filter-le, filter-append}
+use Rattle.lists.proofs.Entries.{each-map, each-filter}
+use Rattle.lists.proofs.Members.{strict-at, strict-get}
 use Rattle.smooth.specs.Extrema.{argminMiddle, shallow}
 use Rattle.runs.specs.Runs.{Span, Within}
-use Rattle.runs.specs.Near.{runOf, Answers, Nearest}
+use Rattle.runs.specs.Near.{runOf, Answers}
 use Rattle.runs.specs.declared.near.Found.{Found}
 use Rattle.runs.specs.declared.near.Found.the-variants.{At, Nothing}
-use Rattle.runs.proofs.Nearest.{run-of-answers}
+use Rattle.runs.proofs.Nearest.{run-of-answers, found-each}
 use Rattle.boundaries.specs.Joints.{jointBy, joint, joints, inner, jointsInside}
 use Rattle.boundaries.specs.Taken.{Added}
 use Rattle.boundaries.proofs.Cells.{add-none, add-then, Trying, trying-some, trying-end}
 use Rattle.boundaries.proofs.Turns.{In}
 
-each-middle : {A : Type 0} (P : A → Type 0) (l : List A) (x : A) (r : List A) → Each P (l ++ (x ∷ r)) → P x
-each-middle P [] x r h = h .0
-each-middle P (y ∷ l) x r h = each-middle P l x r (h .1)
-
 -- the run that is found lies in the track
 pub found-within : (n : ℕ) (rs : List Span) (at k f l : ℕ) → Within n rs → runOf rs at ≡ At k f l → l < n
-found-within n rs at k f l w e =
-    let a : Nearest at rs k (record { first = f; last = l }) = subst (Answers at rs) e (run-of-answers at rs) in
-    each-middle (λ r. (r .first ≤ r .last) × (r .last < n)) (a .earlier) (record { first = f; last = l }) (a .later)
-    (subst (Each (λ r. (r .first ≤ r .last) × (r .last < n))) (a .split) w) .1
+found-within n rs at k f l w e = found-each (λ r. (r .first ≤ r .last) × (r .last < n)) rs at k f l w (subst (Answers at rs) e (run-of-answers at rs)) .1
 
 -- ---- the cases of a joint
 module _ (level : List Float) (rs : List Span) (dip : Float) (a b : ℕ) where
@@ -60,15 +53,6 @@ module _ (level : List Float) (rs : List Span) (dip : Float) (a b : ℕ) where
   joint-break x f l y g m e d c = sym (ap (λ (t : Bool). cond t ((l + 1) ∷ g ∷ []) (argminMiddle level a b ∷ [])) c) ∙ both x f l y g m e d
 
 -- ---- the walk
-pub filter-append : {A : Type 0} (p : A → Bool) (xs ys : List A) → filter p (xs ++ ys) ≡ filter p xs ++ filter p ys
-unfolding filter
-filter-append p [] ys = refl
-filter-append {A} p (x ∷ xs) ys = ap (consIf (p x) x) (filter-append p xs ys) ∙ go (p x)
-  where
-    go : (b : Bool) → consIf b x (filter p xs ++ filter p ys) ≡ consIf b x (filter p xs) ++ filter p ys
-    go true = refl
-    go false = refl
-
 module _ (level : List Float) (rs : List Span) (dip : Float) (start end : ℕ) (ns : List ℕ) (i : ℕ) where
   pub joints-on : i + 1 < length ns → jointsInside level rs dip start end (drop i ns) ≡ filter (inner start end) (joint level rs dip (getD ns i 0) (getD ns (i + 1) 0)) ++ jointsInside level rs dip start end (drop (i + 1) ns)
   unfolding jointsInside joints
@@ -91,10 +75,7 @@ module _ (level : List Float) (rs : List Span) (dip : Float) (start end : ℕ) (
 
 -- nuclei that rise: neighbours, and the track
 pub nuclei-at : (n : ℕ) (ns : List ℕ) (i : ℕ) → StrictlyRises 0 n ns → i + 1 < length ns → (getD ns i 0 ≤ getD ns (i + 1) 0) × (getD ns (i + 1) 0 < n)
-nuclei-at n ns i s h = (less (getD ns i 0) (getD ns (i + 1) 0) (strict-at 0 n ns s i h), each-at (λ x. (0 ≤ x) × (x < n)) ns 0 (strict-each 0 n ns s) (i + 1) h .1)
-  where
-    less : (a b : ℕ) → a < b → a ≤ b
-    less a b h = omega arith
+nuclei-at n ns i s h = (le-of-lt (strict-at 0 n ns s i h), strict-get 0 n ns (i + 1) h s)
 
 module _ (start end at : ℕ) where
   only : (b : Bool) → inner start end at ≡ b → filter (inner start end) (at ∷ []) ≡ consIf b at []

@@ -4,8 +4,8 @@ use Prim.Native.Nat.{ℕ, _+_, _-_, _*_, _≤_, _<_}
 use native.Mathlib.Omega.{arith}
 use mathlib.Core.Path.{_≡_, refl, sym, ap, subst}
 use mathlib.Core.Bool.{Bool, true, false, not, _&&_, false≢true}
-use mathlib.Core.List.{List, [], _∷_, _++_, map}
-use mathlib.Core.Logic.{_⊎_, inl, inr, ⊎-elim}
+use mathlib.Core.List.{List, [], _∷_, _++_, map, map-map}
+use mathlib.Core.Logic.{inl, inr, ⊎-elim}
 use lib.ListN.{length}
 use lib.Dec.{ltb, leb, eqb}
 use lib.Ieee.{Float}
@@ -24,18 +24,19 @@ use Rattle.lists.proofs.Turns.{turn-each}
 use Rattle.smooth.specs.Level.{levels}
 use Rattle.smooth.specs.Extrema.{inside, localExtrema}
 use Rattle.smooth.specs.declared.extrema.Extremum.the-variants.{Min}
-use Rattle.region.specs.Speech.{speechAt, thresholdOf}
+use Rattle.region.specs.Speech.{speechAt, thresholdOf, lastOf}
 use Rattle.region.specs.declared.Settings.{Settings}
+use Rattle.region.specs.declared.Bounds.{Bounds}
 use Rattle.runs.specs.Runs.{Span}
-use Rattle.runs.specs.Syllables.{Gap, syllableRuns}
+use Rattle.runs.specs.Syllables.{syllableRuns}
 use Rattle.boundaries.specs.Keeping.{addAll}
 use Rattle.boundaries.specs.Joints.{jointsInside}
 use Rattle.boundaries.specs.Edges.{between, changed, loudBeside, pauseEdge, pauseEdges, voicingEdges}
 use Rattle.boundaries.specs.Minima.{minimum, inLongSpan, minima}
 use Rattle.boundaries.specs.Boundaries.{capOf, chosen, boundariesIn, creaky, boundariesOf}
-use Rattle.boundaries.specs.Promises.{RisesFrom, lastFrom, Reaches, Near, Promised, pausesAt, pausesIn, atMost}
+use Rattle.boundaries.specs.Promises.{RisesFrom, Reaches, Near, Promised, pausesAt, pausesIn, atMost}
 use Rattle.boundaries.proofs.Adding.{Far, Close, far-sym, add-append, add-each, add-some, add-few, add-pairs, add-near}
-use Rattle.boundaries.proofs.Turns.{In, map-twice, pauses-in, voicings-in}
+use Rattle.boundaries.proofs.Turns.{In, pauses-in, voicings-in}
 use Rattle.boundaries.proofs.Jointly.{joints-in, inside-few}
 
 -- ---- a list that is sorted
@@ -52,7 +53,7 @@ first-is start x l h e (inr q) = go l e q
     go (y ∷ l) e (inl p) = omega (arith, e .0)
     go (y ∷ l) e (inr q) = go l (e .1) q
 
-last-is : (end x : ℕ) (l : List ℕ) → RisesFrom x l → Each (λ y. y ≤ end) l → Some (λ k. k ≡ end) (x ∷ l) → lastFrom x l ≡ end
+last-is : (end x : ℕ) (l : List ℕ) → RisesFrom x l → Each (λ y. y ≤ end) l → Some (λ k. k ≡ end) (x ∷ l) → lastOf x l ≡ end
 last-is end x [] r e (inl p) = p
 last-is end x [] r e (inr q) = absurd q
 last-is end x (y ∷ l) r e (inl p) = absurd (omega (arith, r .0, e .0))
@@ -133,18 +134,21 @@ module _ (start end : ℕ) where
       (each-of-map (λ c. In start end (c .frame)) (minimum s) (filter test all)
       (each-map (λ i. test i ≡ true) (In start end) (λ i e. long-in kept i h (and-cases (inLongSpan kept i) (not (skip i)) e .0)) (filter test all) (each-filter test all)))
 
--- ---- of any level, threshold, runs and frames to skip
-pub promised-in : (db level pitch voicing : List Float) (threshold dip : Float) (rs : List Span) (skip : ℕ → Bool) (start end : ℕ) (nuclei : List ℕ) → start + 2 < end →
-    Promised start end nuclei (jointsInside level rs dip start end nuclei) (boundariesIn db level pitch voicing threshold dip rs skip start end nuclei)
+-- ---- of any level and threshold
+promised-in : (db level pitch voicing : List Float) (b : Bounds) (dip : Float) (nuclei : List ℕ) → b .start + 2 < b .end →
+    Promised (b .start) (b .end) nuclei (jointsInside level (syllableRuns pitch) dip (b .start) (b .end) nuclei) (boundariesIn db level pitch voicing b dip nuclei)
 unfolding boundariesIn
-promised-in db level pitch voicing threshold dip rs skip start end nuclei wide =
-    let js = jointsInside level rs dip start end nuclei in
-    let ps = inTurn (pauseEdges db threshold start end) in
+promised-in db level pitch voicing b dip nuclei wide =
+    let start = b .start in
+    let end = b .end in
+    let skip = creaky db pitch (b .threshold) in
+    let js = jointsInside level (syllableRuns pitch) dip start end nuclei in
+    let ps = inTurn (pauseEdges db (b .threshold) start end) in
     let vs = inTurn (voicingEdges pitch voicing skip start end) in
     let mins : List ℕ → List ℕ = λ l. inTurn (minima level skip l) in
-    let room : 2 + length js ≤ capOf nuclei = more (length js) (length nuclei) (inside-few level rs dip start end nuclei) in
-    let injs = joints-in level rs dip start end nuclei in
-    let inrest = each-append (In start end) ps vs (pauses-in start end db threshold) (voicings-in start end pitch voicing skip) in
+    let room : 2 + length js ≤ capOf nuclei = more (length js) (length nuclei) (inside-few level (syllableRuns pitch) dip start end nuclei) in
+    let injs = joints-in level (syllableRuns pitch) dip start end nuclei in
+    let inrest = each-append (In start end) ps vs (pauses-in start end db (b .threshold)) (voicings-in start end pitch voicing skip) in
     let inmins = minima-in start end level skip in
     record {
       rise = chosen-reaches (capOf nuclei) start end js (ps ++ vs) mins wide room injs inrest inmins;
@@ -158,8 +162,7 @@ promised-in db level pitch voicing threshold dip rs skip start end nuclei wide =
 -- THE PROMISES, of a take
 pub promised : (db pitch voicing : List Float) (start end : ℕ) (nuclei : List ℕ) (p : Settings) → start + 2 < end →
     Promised start end nuclei (jointsInside (levels db) (syllableRuns pitch) (p .dip) start end nuclei) (boundariesOf db pitch voicing start end nuclei p)
-promised db pitch voicing start end nuclei p wide =
-    promised-in db (levels db) pitch voicing (thresholdOf db p) (p .dip) (syllableRuns pitch) (creaky db pitch (thresholdOf db p)) start end nuclei wide
+promised db pitch voicing start end nuclei p wide = promised-in db (levels db) pitch voicing (record { threshold = thresholdOf db p; start = start; end = end }) (p .dip) nuclei wide
 
 -- ---- pauses
 -- the frames that changes are read at are among those of all changes
@@ -173,8 +176,8 @@ among f (i ∷ l) = (
 
 module _ (db : List Float) (threshold : Float) where
   -- both edges of a pause are in a list
-  abbrev pub BothIn : List ℕ → Gap → Type 0
-  BothIn frames g = (member frames (g .before) ≡ true) × (member frames (g .after) ≡ true)
+  abbrev pub BothIn : List ℕ → Span → Type 0
+  BothIn frames g = (member frames (g .first) ≡ true) × (member frames (g .last) ≡ true)
 
   both : (frames l : List ℕ) → Each (λ i. member frames (loudBeside db threshold i) ≡ true) l → Each (BothIn frames) (pausesAt db threshold l)
   both frames [] h = tt
@@ -182,7 +185,7 @@ module _ (db : List Float) (threshold : Float) where
   both frames (i ∷ j ∷ js) h = go (not (speechAt threshold db i)) (both frames (j ∷ js) (h .1))
     where
       go : (b : Bool) → Each (BothIn frames) (pausesAt db threshold (j ∷ js)) →
-          Each (BothIn frames) (consIf b (record { before = loudBeside db threshold i; after = loudBeside db threshold j }) (pausesAt db threshold (j ∷ js)))
+          Each (BothIn frames) (consIf b (record { first = loudBeside db threshold i; last = loudBeside db threshold j }) (pausesAt db threshold (j ∷ js)))
       go true r = ((h .0, h .1 .0), r)
       go false r = r
 
@@ -192,7 +195,7 @@ module _ (db : List Float) (threshold : Float) where
   pause-edges start end =
       let here = between start end (changed (speechAt threshold db)) in
       both (map (λ (c : Candidate). c .frame) (map (pauseEdge db threshold) here)) here
-      (subst (λ (l : List ℕ). Each (λ i. member l (loudBeside db threshold i) ≡ true) here) (sym (map-twice (λ (c : Candidate). c .frame) (pauseEdge db threshold) here)) (among (loudBeside db threshold) here))
+      (subst (λ (l : List ℕ). Each (λ i. member l (loudBeside db threshold i) ≡ true) here) (sym (map-map (λ (c : Candidate). c .frame) (pauseEdge db threshold) here)) (among (loudBeside db threshold) here))
 
 -- so the bound with pauses holds, and without the pauses too
 pub with-pauses : (db pitch voicing : List Float) (start end : ℕ) (nuclei : List ℕ) (p : Settings) → start + 2 < end →
@@ -214,7 +217,7 @@ pub reaches-apart : (start end : ℕ) (bs : List ℕ) → Reaches start end bs �
 reaches-apart start end [] r = absurd r
 reaches-apart start end (x ∷ xs) r = apart-from x xs (r .2)
 
-few-from : (x : ℕ) (ys : List ℕ) → RisesFrom x ys → x + length ys ≤ lastFrom x ys
+few-from : (x : ℕ) (ys : List ℕ) → RisesFrom x ys → x + length ys ≤ lastOf x ys
 few-from x [] r = omega arith
 few-from x (y ∷ ys) r = omega (arith, r .0, few-from y ys (r .1))
 

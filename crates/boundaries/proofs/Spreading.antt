@@ -12,12 +12,13 @@ use Rattle.lists.specs.Results.{filter, consIf}
 use Rattle.lists.proofs.Tests.{test-iff, and-cases, and-both}
 use Rattle.lists.specs.Sorted.{StrictlyRises}
 use Rattle.lists.proofs.Fill.{drop-step}
-use Rattle.lists.proofs.Entries.{each-at}
-use Rattle.lists.proofs.Members.{strict-at, strict-each}
+use Rattle.lists.proofs.Members.{strict-at, strict-get}
+use Rattle.lists.proofs.Marking.{flag-is}
 use Rattle.smooth.specs.Extrema.{inside}
-use Rattle.runs.specs.Syllables.{Gap, befores, afters}
-use Rattle.boundaries.specs.Taken.{flagged, Spread}
-use Rattle.boundaries.specs.Edges.{filled, inCreak, gapsOf}
+use Rattle.runs.specs.Runs.{Span, spans}
+use Rattle.region.specs.Speech.{marked}
+use Rattle.boundaries.specs.Taken.{Spread}
+use Rattle.boundaries.specs.Edges.{filled, inCreak}
 use Rattle.boundaries.specs.Minima.{inLongSpan}
 
 -- ---- a walk that marks frames: the test that is left to spread
@@ -82,10 +83,10 @@ inside-over i b h x = go (leb i x) refl
     go false e = refl
 
 -- ---- creaks
-abbrev creaksIn : (ℕ → Bool) → List Gap → ℕ → Bool
+abbrev creaksIn : (ℕ → Bool) → List Span → ℕ → Bool
 creaksIn t gs = inCreak (filter (filled t) gs)
 
-creaks-split : (t : ℕ → Bool) (g : Gap) (gs : List Gap) (x : ℕ) → creaksIn t (g ∷ gs) x ≡ (creaksIn t (g ∷ []) x || creaksIn t gs x)
+creaks-split : (t : ℕ → Bool) (g : Span) (gs : List Span) (x : ℕ) → creaksIn t (g ∷ gs) x ≡ (creaksIn t (g ∷ []) x || creaksIn t gs x)
 unfolding filter inCreak
 creaks-split t g gs x = go (filled t g)
   where
@@ -94,22 +95,22 @@ creaks-split t g gs x = go (filled t g)
     more false b = refl
 
     go : (p : Bool) → inCreak (consIf p g (filter (filled t) gs)) x ≡ (inCreak (consIf p g []) x || inCreak (filter (filled t) gs) x)
-    go true = more (ltb (g .before) x && leb x (g .after)) (inCreak (filter (filled t) gs) x)
+    go true = more (ltb (g .first) x && leb x (g .last)) (inCreak (filter (filled t) gs) x)
     go false = refl
 
 module _ (t : ℕ → Bool) (bs zs : List ℕ) (i : ℕ) where
   pub creaks-on : i < length bs → i < length zs → (x : ℕ) →
-      creaksIn t (gapsOf (drop i bs) (drop i zs)) x ≡ (creaksIn t (gapsOf (getD bs i 0 ∷ []) (getD zs i 0 ∷ [])) x || creaksIn t (gapsOf (drop (i + 1) bs) (drop (i + 1) zs)) x)
-  unfolding gapsOf
-  creaks-on h k x = rw (drop-step bs i 0 h, drop-step zs i 0 k) (creaks-split t (record { before = getD bs i 0; after = getD zs i 0 }) (gapsOf (drop (i + 1) bs) (drop (i + 1) zs)) x)
+      creaksIn t (spans (drop i bs) (drop i zs)) x ≡ (creaksIn t (spans (getD bs i 0 ∷ []) (getD zs i 0 ∷ [])) x || creaksIn t (spans (drop (i + 1) bs) (drop (i + 1) zs)) x)
+  unfolding spans
+  creaks-on h k x = rw (drop-step bs i 0 h, drop-step zs i 0 k) (creaks-split t (record { first = getD bs i 0; last = getD zs i 0 }) (spans (drop (i + 1) bs) (drop (i + 1) zs)) x)
 
-  pub creaks-over : length bs ≤ i → (x : ℕ) → creaksIn t (gapsOf (drop i bs) (drop i zs)) x ≡ false
-  unfolding gapsOf filter inCreak
+  pub creaks-over : length bs ≤ i → (x : ℕ) → creaksIn t (spans (drop i bs) (drop i zs)) x ≡ false
+  unfolding spans filter inCreak
   creaks-over h x = rw (drop-of-length-le bs h)
 
 module _ (t : ℕ → Bool) (b z : ℕ) where
-  pub one-creak : filled t (record { before = b; after = z }) ≡ true → (x : ℕ) → inside (b + 1) (z + 1) x ≡ creaksIn t (gapsOf (b ∷ []) (z ∷ [])) x
-  unfolding gapsOf filter inCreak
+  pub one-creak : filled t (record { first = b; last = z }) ≡ true → (x : ℕ) → inside (b + 1) (z + 1) x ≡ creaksIn t (spans (b ∷ []) (z ∷ [])) x
+  unfolding spans filter inCreak
   one-creak e x =
       rw e
       (ap (λ (p : Bool). p && ltb x (z + 1)) (leb-ltb b x) ∙ ap (λ (p : Bool). ltb b x && p) (ltb-leb x z) ∙ sym (or-false (ltb b x && leb x z)))
@@ -120,14 +121,9 @@ module _ (t : ℕ → Bool) (b z : ℕ) where
       ltb-leb : (x z : ℕ) → ltb x (z + 1) ≡ leb x z
       ltb-leb x z = test-iff (ltb x (z + 1)) (leb x z) (λ p. le-leb x z (omega (arith, ltb-true x (z + 1) p))) (λ p. lt-ltb x (z + 1) (omega (arith, leb-true x z p)))
 
-  pub no-creak : filled t (record { before = b; after = z }) ≡ false → (x : ℕ) → creaksIn t (gapsOf (b ∷ []) (z ∷ [])) x ≡ false
-  unfolding gapsOf filter inCreak
+  pub no-creak : filled t (record { first = b; last = z }) ≡ false → (x : ℕ) → creaksIn t (spans (b ∷ []) (z ∷ [])) x ≡ false
+  unfolding spans filter inCreak
   no-creak e x = rw e
-
-pub gaps-of : (gs : List Gap) → gapsOf (befores gs) (afters gs) ≡ gs
-unfolding gapsOf
-gaps-of [] = refl
-gaps-of (g ∷ gs) = ap (λ (l : List Gap). g ∷ l) (gaps-of gs)
 
 -- ---- long spans
 module _ (kept : List ℕ) (i : ℕ) where
@@ -181,7 +177,7 @@ module _ (kept : List ℕ) (i : ℕ) (past : 1 ≤ i) where
 pub rise-at : (kept : List ℕ) → StrictlyRises 0 2049 kept → (i : ℕ) → 1 ≤ i → i < length kept → (getD kept (i - 1) 0 < getD kept i 0) × (getD kept i 0 < 2049)
 rise-at kept s i past h =
     let p : i - 1 + 1 ≡ i = omega arith in
-    (subst (λ (j : ℕ). getD kept (i - 1) 0 < getD kept j 0) p (strict-at 0 2049 kept s (i - 1) (omega arith)), each-at (λ x. (0 ≤ x) × (x < 2049)) kept 0 (strict-each 0 2049 kept s) i h .1)
+    (subst (λ (j : ℕ). getD kept (i - 1) 0 < getD kept j 0) p (strict-at 0 2049 kept s (i - 1) (omega arith)), strict-get 0 2049 kept i h s)
 
 -- ---- marks that were none
 pub getD-zeros : (n i : ℕ) → _≡_ {A = ℕ} (getD (replicate n 0) i 0) 0
@@ -189,9 +185,5 @@ getD-zeros zero i = refl
 getD-zeros (suc n) zero = refl
 getD-zeros (suc n) (suc i) = getD-zeros n i
 
-pub flag-is : (b : Bool) → eqb (cond b 1 0) 1 ≡ b
-flag-is true = refl
-flag-is false = refl
-
-pub spread-flags : {t : ℕ → Bool} {m : List ℕ} → Spread t (replicate 2048 0) m → flagged m ≡ t
+pub spread-flags : {t : ℕ → Bool} {m : List ℕ} → Spread t (replicate 2048 0) m → marked m ≡ t
 spread-flags {t} {m} s = fun-ext (λ x. ap (λ (v : ℕ). eqb v 1) (s .spreads refl x ∙ ap (λ (n : ℕ). cond (t x) 1 n) (getD-zeros 2048 x)) ∙ flag-is (t x))

@@ -3,7 +3,7 @@ use Prim.Native.Nat.{ℕ, zero, suc, _+_, _-_, _≤_, _<_, min}
 use native.Mathlib.Omega.{arith}
 use mathlib.Core.Path.{_≡_, refl, sym, ap, subst, _∙_}
 use mathlib.Core.Bool.{Bool, true, false, not, _&&_, cond, Bool·beq}
-use mathlib.Core.List.{List, [], _∷_, map}
+use mathlib.Core.List.{List, [], _∷_, map, map-map}
 use lib.ListN.{length, getD, take, drop, length-map, drop-of-length-le}
 use lib.Dec.{T}
 use lib.Ieee.{Float, nan, inf, fin, binary32, fits, sub, unlike}
@@ -28,10 +28,6 @@ use Rattle.boundaries.specs.Taken.{Added}
 use Rattle.boundaries.specs.Edges.{between, changed, jump, loudBeside, pauseEdge, pauseEdges, voicingEdge, voicingEdges}
 use Rattle.boundaries.specs.Minima.{prominenceAt, minimum, inLongSpan, minima}
 use Rattle.boundaries.proofs.Cells.{Trying, trying-some, trying-end}
-
-pub map-twice : {A B C : Type 0} (g : B → C) (f : A → B) (l : List A) → map g (map f l) ≡ map (λ (x : A). g (f x)) l
-map-twice g f [] = refl
-map-twice {A} {B} {C} g f (x ∷ l) = ap (λ (r : List C). g (f x) ∷ r) (map-twice g f l)
 
 pub jump-same : (v w x y : Float) → v ≡ w → x ≡ y → jump v x ≡ jump w y
 jump-same v w x y p q = ap (λ (a : Float). jump a x) p ∙ ap (jump w) q
@@ -96,7 +92,7 @@ pub pauses-start : (db : List Float) (threshold : Float) (start end : ℕ) (out�
     Filling (map keyOf (pauseEdges db threshold start end)) (map (pauseKey db threshold) (keep (pauseHere db threshold) (start + 1) (end - (start + 1)))) out₀ out₀ 0
 unfolding pauseEdges between
 pauses-start db threshold start end out₀ h =
-    walk-start (pauseHere db threshold) (pauseKey db threshold) (start + 1) end _ out₀ (map-twice keyOf (pauseEdge db threshold) (keep (pauseHere db threshold) (start + 1) (end - (start + 1)))) h
+    walk-start (pauseHere db threshold) (pauseKey db threshold) (start + 1) end _ out₀ (map-map keyOf (pauseEdge db threshold) (keep (pauseHere db threshold) (start + 1) (end - (start + 1)))) h
 
 -- the test and the key of a voicing edge
 abbrev pub voicingHere : List Float → (ℕ → Bool) → ℕ → Bool
@@ -109,7 +105,7 @@ pub voicings-start : (pitch voicing : List Float) (skip : ℕ → Bool) (start e
     Filling (map keyOf (voicingEdges pitch voicing skip start end)) (map (voicingKey voicing) (keep (voicingHere pitch skip) (start + 1) (end - (start + 1)))) out₀ out₀ 0
 unfolding voicingEdges between
 voicings-start pitch voicing skip start end out₀ h =
-    walk-start (voicingHere pitch skip) (voicingKey voicing) (start + 1) end _ out₀ (map-twice keyOf (voicingEdge voicing) (keep (voicingHere pitch skip) (start + 1) (end - (start + 1)))) h
+    walk-start (voicingHere pitch skip) (voicingKey voicing) (start + 1) end _ out₀ (map-map keyOf (voicingEdge voicing) (keep (voicingHere pitch skip) (start + 1) (end - (start + 1)))) h
 
 -- ---- the keys of those minima that pass
 module _ (s : List Float) (t : ℕ → Bool) (mins : List ℕ) where

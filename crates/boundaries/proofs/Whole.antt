@@ -21,63 +21,62 @@ use Rattle.smooth.specs.Level.{levels}
 use Rattle.smooth.specs.Extrema.{localExtrema}
 use Rattle.smooth.specs.declared.extrema.Extremum.the-variants.{Min}
 use Rattle.smooth.proofs.Averages.{length-levels}
-use Rattle.region.specs.Speech.{speechAt, thresholdOf}
-use Rattle.region.specs.declared.Settings.{Settings}
-use Rattle.runs.specs.Runs.{Span, Within, firsts, lasts, spans}
-use Rattle.runs.specs.Syllables.{Gap, syllableRuns, befores, afters, dropouts}
+use Rattle.region.specs.Speech.{speechAt, marked}
+use Rattle.region.specs.declared.Bounds.{Bounds}
+use Rattle.runs.specs.Runs.{Span, Within, spans, SpansLent, SpansListed}
+use Rattle.runs.specs.Syllables.{syllableRuns, dropouts}
 use Rattle.runs.proofs.Spacing.{spaced-within, syllable-spaced, syllable-few, dropout-wide}
 use Rattle.runs.proofs.Spans.{written, holds-within}
 use Rattle.boundaries.specs.Keeping.{addAll, ends}
-use Rattle.boundaries.specs.Taken.{flagged, Taken, Added, framesIn, Spread}
+use Rattle.boundaries.specs.Taken.{Taken, Added, takenFrames, Spread}
 use Rattle.boundaries.specs.Joints.{jointsInside}
-use Rattle.boundaries.specs.Edges.{pauseEdges, filled, creaks, inCreak, gapsOf, voicingEdges}
+use Rattle.boundaries.specs.Edges.{pauseEdges, filled, creaks, inCreak, voicingEdges}
 use Rattle.boundaries.specs.Minima.{minimum, inLongSpan, minima}
-use Rattle.boundaries.specs.Boundaries.{capOf, edges, chosen, boundariesIn, creaky, boundariesOver, boundariesOf}
+use Rattle.boundaries.specs.Boundaries.{capOf, edges, chosen, boundariesIn, creaky}
 use Rattle.boundaries.proofs.Adding.{Other, far-other, pairs-once, add-each, add-pairs}
 use Rattle.boundaries.proofs.Cells.{in-order}
-use Rattle.boundaries.proofs.Spreading.{gaps-of, spread-flags}
+use Rattle.boundaries.proofs.Spreading.{spread-flags}
 use Rattle.boundaries.proofs.Turns.{In, pauses-in, voicings-in, each-minimum, minima-below}
 use Rattle.boundaries.proofs.Jointly.{joints-in}
 
 -- ---- creaks
-module _ (pitch : List Float) {before₀ before after₀ after : List ℕ} {n : ℕ} (l : Listed (befores (dropouts pitch)) before₀ before n × Listed (afters (dropouts pitch)) after₀ after n) where
+module _ (pitch : List Float) {before₀ before after₀ after : List ℕ} {n : ℕ} (l : SpansListed (dropouts pitch) before₀ before after₀ after n) where
   pub dropouts-many : length (take n before) ≡ length (take n after)
   dropouts-many = sym (listed-count (l .0)) ∙ listed-count (l .1)
 
   pub dropouts-below : length pitch ≤ 2048 → Each (λ z. z < 2048) (take n after)
   dropouts-below h =
       subst (Each (λ z. z < 2048)) (sym (listed-take (l .1)))
-      (each-of-map (λ z. z < 2048) (λ (g : Gap). g .after) (dropouts pitch)
-      (each-map (λ g. (g .before + 3 < g .after) × (g .after < length pitch)) (λ g. g .after < 2048) (λ g k. omega (arith, k .1)) (dropouts pitch) (dropout-wide pitch)))
+      (each-of-map (λ z. z < 2048) (λ (g : Span). g .last) (dropouts pitch)
+      (each-map (λ g. (g .first + 3 < g .last) × (g .last < length pitch)) (λ g. g .last < 2048) (λ g k. omega (arith, k .1)) (dropouts pitch) (dropout-wide pitch)))
 
   -- the gaps that were written are the dropouts
-  pub dropouts-spread : (db : List Float) (threshold : Float) {old new : List ℕ} → Spread (inCreak (filter (filled (speechAt threshold db)) (gapsOf (take n before) (take n after)))) old new →
+  pub dropouts-spread : (db : List Float) (threshold : Float) {old new : List ℕ} → Spread (inCreak (filter (filled (speechAt threshold db)) (spans (take n before) (take n after)))) old new →
       Spread (creaky db pitch threshold) old new
   unfolding creaks
   dropouts-spread db threshold {old} {new} s =
-      subst (λ (gs : List Gap). Spread (inCreak (filter (filled (speechAt threshold db)) gs)) old new)
-      (ap (λ (bs : List ℕ). gapsOf bs (take n after)) (listed-take (l .0)) ∙ ap (gapsOf (befores (dropouts pitch))) (listed-take (l .1)) ∙ gaps-of (dropouts pitch)) s
+      subst (λ (gs : List Span). Spread (inCreak (filter (filled (speechAt threshold db)) gs)) old new) (written (dropouts pitch) l .runs) s
 
 -- ---- the minima
 -- what put_taken wrote rises
-pub frames-rise : (m : List ℕ) (n : ℕ) → n ≤ 2048 → {old new : List ℕ} {k : ℕ} → Listed (framesIn m n) old new k → StrictlyRises 0 2049 (take k new)
-frames-rise m n h l = subst (StrictlyRises 0 2049) (sym (listed-take l)) (keep-rises (λ x. flagged m (x + 2)) 2049 0 (n + 1) (omega arith))
+pub frames-rise : (m : List ℕ) (n : ℕ) → n ≤ 2048 → {old new : List ℕ} {k : ℕ} → Listed (takenFrames m n) old new k → StrictlyRises 0 2049 (take k new)
+frames-rise m n h l = subst (StrictlyRises 0 2049) (sym (listed-take l)) (keep-rises (λ x. marked m (x + 2)) 2049 0 (n + 1) (omega arith))
 
 pub mins-below : (s : List Float) {old new : List ℕ} {q : ℕ} → Listed (localExtrema s 0 (length s) Min) old new q → Each (λ i. i < length s) (take q new)
 mins-below s l = subst (Each (λ i. i < length s)) (sym (listed-take l)) (minima-below s)
 
 -- the keys that were written are those of the minima
 pub minima-listed : (s : List Float) (skip : ℕ → Bool) (m : List ℕ) {kept₀ kept marks mins₀ mins keys₀ keys : List ℕ} {k q r : ℕ} →
-    Listed (framesIn m (length s)) kept₀ kept k → Spread (inLongSpan (take k kept)) (replicate 2048 0) marks → Listed (localExtrema s 0 (length s) Min) mins₀ mins q →
-    Listed (map keyOf (map (minimum s) (filter (λ i. flagged marks i && not (skip i)) (take q mins)))) keys₀ keys r → Listed (map keyOf (minima s skip (framesIn m (length s)))) keys₀ keys r
+    Listed (takenFrames m (length s)) kept₀ kept k → Spread (inLongSpan (take k kept)) (replicate 2048 0) marks → Listed (localExtrema s 0 (length s) Min) mins₀ mins q →
+    Listed (map keyOf (map (minimum s) (filter (λ i. marked marks i && not (skip i)) (take q mins)))) keys₀ keys r → Listed (map keyOf (minima s skip (takenFrames m (length s)))) keys₀ keys r
 unfolding minima
 minima-listed s skip m {kept₀} {kept} {marks} {mins₀} {mins} {keys₀} {keys} {k} {q} {r} p f l w =
     subst (λ (ks : List ℕ). Listed ks keys₀ keys r)
     (ap (λ (t : ℕ → Bool). map keyOf (map (minimum s) (filter (λ i. t i && not (skip i)) (take q mins)))) (spread-flags f ∙ ap inLongSpan (listed-take p))
-    ∙ ap (λ (xs : List ℕ). map keyOf (map (minimum s) (filter (λ i. inLongSpan (framesIn m (length s)) i && not (skip i)) xs))) (listed-take l)) w
+    ∙ ap (λ (xs : List ℕ). map keyOf (map (minimum s) (filter (λ i. inLongSpan (takenFrames m (length s)) i && not (skip i)) xs))) (listed-take l)) w
 
 -- tried on what is kept
-pub minima-added : (s : List Float) (skip : ℕ → Bool) {cap : ℕ} {m m' : List ℕ} {c c' : ℕ} → Added cap (inTurn (minima s skip (framesIn m (length s)))) m c m' c' →
+pub minima-added : (s : List Float) (skip : ℕ → Bool) {cap : ℕ} {m m' : List ℕ} {c c' : ℕ} → Added cap (inTurn (minima s skip (takenFrames m (length s)))) m c m' c' →
     (kept : List ℕ) → Each (λ x. x ≤ length s) kept → Once kept → Taken kept m c → Taken (addAll cap kept (inTurn (minima s skip (sorted kept)))) m' c'
 minima-added s skip {cap} {m} {m'} {c} {c'} a kept h o t =
     subst (λ (l : List ℕ). Taken (addAll cap kept (inTurn (minima s skip l))) m' c') (in-order kept m c (length s) t h o) (a .adds kept t)
@@ -97,31 +96,39 @@ ends-other start end = go (eqb start end) refl
     go true e = (tt, tt)
     go false e = ((eqb-false start end e, tt), (tt, tt))
 
-module _ (db level pitch voicing : List Float) (threshold dip : Float) (rs : List Span) (skip : ℕ → Bool) (start end : ℕ) (ns : List ℕ) where
-  -- the candidates before the minima lie in the region
-  pub edges-in : Each (In start end) (edges db level pitch voicing threshold dip rs skip start end ns)
-  edges-in =
-      each-append (In start end) (jointsInside level rs dip start end ns) (inTurn (pauseEdges db threshold start end) ++ inTurn (voicingEdges pitch voicing skip start end)) (joints-in level rs dip start end ns)
-      (each-append (In start end) (inTurn (pauseEdges db threshold start end)) (inTurn (voicingEdges pitch voicing skip start end)) (pauses-in start end db threshold) (voicings-in start end pitch voicing skip))
+module _ (db level pitch voicing : List Float) (b : Bounds) (dip : Float) (ns : List ℕ) where
+  abbrev skip : ℕ → Bool
+  skip = creaky db pitch (b .threshold)
 
-  module _ (order : start ≤ end) (fits : end ≤ length level) where
+  abbrev tried : List ℕ
+  tried = edges db level pitch voicing b dip skip ns
+
+  -- the candidates before the minima lie in the region
+  tried-in : Each (In (b .start) (b .end)) tried
+  tried-in =
+      let js = jointsInside level (syllableRuns pitch) dip (b .start) (b .end) ns in
+      let ps = inTurn (pauseEdges db (b .threshold) (b .start) (b .end)) in
+      let vs = inTurn (voicingEdges pitch voicing skip (b .start) (b .end)) in
+      each-append (In (b .start) (b .end)) js (ps ++ vs) (joints-in level (syllableRuns pitch) dip (b .start) (b .end) ns)
+      (each-append (In (b .start) (b .end)) ps vs (pauses-in (b .start) (b .end) db (b .threshold)) (voicings-in (b .start) (b .end) pitch voicing skip))
+
+  module _ (order : b .start ≤ b .end) (fits : b .end ≤ length level) where
     abbrev kept : List ℕ
-    kept = addAll (capOf ns) (ends start end) (edges db level pitch voicing threshold dip rs skip start end ns)
+    kept = addAll (capOf ns) (ends (b .start) (b .end)) tried
 
     kept-within : Each (λ x. x ≤ length level) kept
     kept-within =
-        each-map (In start end) (λ x. x ≤ length level) (λ x h. omega (arith, h .1)) kept
-        (add-each (capOf ns) (In start end) (ends start end) (edges db level pitch voicing threshold dip rs skip start end ns) (ends-in start end order) edges-in)
+        each-map (In (b .start) (b .end)) (λ x. x ≤ length level) (λ x h. omega (arith, h .1)) kept
+        (add-each (capOf ns) (In (b .start) (b .end)) (ends (b .start) (b .end)) tried (ends-in (b .start) (b .end) order) tried-in)
 
     kept-other : Pairs Other kept
-    kept-other = add-pairs (capOf ns) Other far-other (ends start end) (edges db level pitch voicing threshold dip rs skip start end ns) (ends-other start end)
+    kept-other = add-pairs (capOf ns) Other far-other (ends (b .start) (b .end)) tried (ends-other (b .start) (b .end))
 
     kept-once : Once kept
     kept-once = pairs-once kept kept-other
 
     -- the frames that are marked in the end
-    whole-frames : {m : List ℕ} {c : ℕ} → Taken (addAll (capOf ns) kept (inTurn (minima level skip (sorted kept)))) m c →
-        framesIn m (length level) ≡ boundariesIn db level pitch voicing threshold dip rs skip start end ns
+    whole-frames : {m : List ℕ} {c : ℕ} → Taken (addAll (capOf ns) kept (inTurn (minima level skip (sorted kept)))) m c → takenFrames m (length level) ≡ boundariesIn db level pitch voicing b dip ns
     unfolding boundariesIn chosen
     whole-frames {m} {c} t =
         let mins = inTurn (minima level skip (sorted kept)) in
@@ -133,37 +140,18 @@ module _ (db level pitch voicing : List Float) (threshold dip : Float) (rs : Lis
     -- are written in order
     pub whole-listed : {m m' old new : List ℕ} {c c' r : ℕ} → Taken kept m c →
         ((kept : List ℕ) → Each (λ x. x ≤ length level) kept → Once kept → Taken kept m c → Taken (addAll (capOf ns) kept (inTurn (minima level skip (sorted kept)))) m' c') →
-        Listed (framesIn m' (length level)) old new r → Listed (boundariesIn db level pitch voicing threshold dip rs skip start end ns) old new r
+        Listed (takenFrames m' (length level)) old new r → Listed (boundariesIn db level pitch voicing b dip ns) old new r
     whole-listed {m} {m'} {old} {new} {c} {c'} {r} t f l = subst (λ (x : List ℕ). Listed x old new r) (whole-frames (f kept kept-within kept-once t)) l
 
 -- ---- the syllable runs that were written
-pub runs-ready : (pitch : List Float) (n : ℕ) → n ≡ length pitch → n ≤ 2048 → {first₀ first last₀ last : List ℕ} {k : ℕ} → Listed (firsts (syllableRuns pitch)) first₀ first k × Listed (lasts (syllableRuns pitch)) last₀ last k →
-    (length (take k first) ≡ length (take k last)) × (length (take k first) ≤ 2048) × Within n (spans (take k first) (take k last))
+pub runs-ready : (pitch : List Float) (n : ℕ) → n ≡ length pitch → n ≤ 2048 → {first₀ first last₀ last : List ℕ} {k : ℕ} → SpansListed (syllableRuns pitch) first₀ first last₀ last k →
+    SpansLent (take k first) (take k last) × Within n (spans (take k first) (take k last))
 runs-ready pitch n e h {first₀} {first} {last₀} {last} {k} l =
     let w = written (syllableRuns pitch) l in (
-      w .firsts-many ∙ sym (w .lasts-many),
-      omega (arith, w .firsts-many, syllable-few pitch),
+      (w .firsts-many ∙ sym (w .lasts-many), omega (arith, w .firsts-many, syllable-few pitch)),
       subst (λ (m : ℕ). Within m (spans (take k first) (take k last))) (sym e) (holds-within (length pitch) w (spaced-within 0 (length pitch) (syllableRuns pitch) (syllable-spaced pitch))),
     )
 
 -- the level that was written
 pub level-listed : (db : List Float) {old new : List Float} → new ≡ overlay (levels db) old → Listed (levels db) old new (length db)
 level-listed db e = record { count = sym (length-levels db); entries = e }
-
--- ---- from the middle definition to that of a take
-module _ (db pitch voicing : List Float) (start end : ℕ) (ns : List ℕ) {out₀ out : List ℕ} {r : ℕ} where
-  pub over-is : (level : List Float) (threshold dip : Float) {first₀ first last₀ last marks : List ℕ} {k : ℕ} → Listed (firsts (syllableRuns pitch)) first₀ first k × Listed (lasts (syllableRuns pitch)) last₀ last k →
-      Spread (creaky db pitch threshold) (replicate 2048 0) marks →
-      Listed (boundariesIn db level pitch voicing threshold dip (spans (take k first) (take k last)) (flagged marks) start end ns) out₀ out r →
-      Listed (boundariesOver db level pitch voicing threshold dip start end ns) out₀ out r
-  over-is level threshold dip {first₀} {first} {last₀} {last} {marks} {k} l s b =
-      subst (λ (bs : List ℕ). Listed bs out₀ out r)
-      (ap (λ (rs : List Span). boundariesIn db level pitch voicing threshold dip rs (flagged marks) start end ns) (written (syllableRuns pitch) l .runs)
-      ∙ ap (λ (skip : ℕ → Bool). boundariesIn db level pitch voicing threshold dip (syllableRuns pitch) skip start end ns) (spread-flags s)) b
-
-  pub with-is : (p : Settings) {level₀ level : List Float} {threshold : Float} → Listed (levels db) level₀ level (length db) → threshold ≡ thresholdOf db p →
-      Listed (boundariesOver db (take (length db) level) pitch voicing threshold (p .dip) start end ns) out₀ out r → Listed (boundariesOf db pitch voicing start end ns p) out₀ out r
-  with-is p {level₀} {level} {threshold} e t b =
-      subst (λ (bs : List ℕ). Listed bs out₀ out r)
-      (ap (λ (s : List Float). boundariesOver db s pitch voicing threshold (p .dip) start end ns) (listed-take e)
-      ∙ ap (λ (x : Float). boundariesOver db (levels db) pitch voicing x (p .dip) start end ns) t) b

@@ -1,16 +1,17 @@
 -- Pause edges, creaks and voicing edges. Definitions only.
-use Prim.Native.Nat.{ℕ, zero, suc, _+_, _-_}
-use mathlib.Core.Bool.{Bool, true, false, not, _&&_, _||_, cond}
+use Prim.Native.Nat.{ℕ, _+_, _-_}
+use mathlib.Core.Bool.{Bool, false, not, _&&_, _||_, cond}
 use mathlib.Core.List.{List, [], _∷_, map}
 use lib.ListN.{getD}
 use lib.Dec.{ltb, leb}
 use lib.Ieee.{Float, nan, binary32, sub, unlike}
 use Rattle.floats.specs.Plain.{magnitude, orZero}
 use Rattle.lists.specs.Results.{keep, filter}
+use Rattle.lists.specs.Frames.{allFrames}
 use Rattle.lists.specs.Candidates.{Candidate}
 use Rattle.region.specs.Speech.{speechAt}
-use Rattle.runs.specs.Runs.{voiced}
-use Rattle.runs.specs.Syllables.{Gap, dropouts}
+use Rattle.runs.specs.Runs.{Span, voiced}
+use Rattle.runs.specs.Syllables.{dropouts}
 
 -- the frames strictly between start and end that pass
 unfoldable pub between : ℕ → ℕ → (ℕ → Bool) → List ℕ
@@ -38,29 +39,18 @@ unfoldable pub pauseEdges : List Float → Float → ℕ → ℕ → List Candid
 pauseEdges db threshold start end = map (pauseEdge db threshold) (between start end (changed (speechAt threshold db)))
 
 -- ---- creaks
--- each of the k frames from i on passes
-unfoldable pub allFrom : (ℕ → Bool) → ℕ → ℕ → Bool
-allFrom t i zero = true
-allFrom t i (suc k) = t i && allFrom t (i + 1) k
-
 -- each frame inside a gap passes
-abbrev pub filled : (ℕ → Bool) → Gap → Bool
-filled t g = allFrom t (g .before + 1) (g .after - (g .before + 1))
+abbrev pub filled : (ℕ → Bool) → Span → Bool
+filled t g = allFrames t (g .first + 1) (g .last - (g .first + 1))
 
 -- the creaks: dropouts whose frames are all speech
-unfoldable pub creaks : List Float → (ℕ → Bool) → List Gap
+unfoldable pub creaks : List Float → (ℕ → Bool) → List Span
 creaks pitch speech = filter (filled speech) (dropouts pitch)
 
 -- a frame lies in one of the gaps, or is the first after it
-unfoldable pub inCreak : List Gap → ℕ → Bool
+unfoldable pub inCreak : List Span → ℕ → Bool
 inCreak [] at = false
-inCreak (g ∷ gs) at = (ltb (g .before) at && leb at (g .after)) || inCreak gs at
-
--- the gaps whose frames before and after two lists hold
-unfoldable pub gapsOf : List ℕ → List ℕ → List Gap
-gapsOf [] zs = []
-gapsOf (b ∷ bs) [] = []
-gapsOf (b ∷ bs) (z ∷ zs) = record { before = b; after = z } ∷ gapsOf bs zs
+inCreak (g ∷ gs) at = (ltb (g .first) at && leb at (g .last)) || inCreak gs at
 
 -- ---- voicing
 -- the first frame of the new state; it weighs the jump in voiced_p, which the track `voicing` holds

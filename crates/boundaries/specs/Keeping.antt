@@ -5,14 +5,10 @@ use mathlib.Core.List.{List, [], _∷_, _++_}
 use lib.ListN.{length}
 use lib.Dec.{ltb, eqb}
 
--- two frames are more than 2 apart
-abbrev pub apart : ℕ → ℕ → Bool
-apart a b = ltb (a + 2) b || ltb (b + 2) a
-
 -- a frame is more than 2 from each of a list
 unfoldable pub clear : ℕ → List ℕ → Bool
 clear at [] = true
-clear at (k ∷ ks) = apart k at && clear at ks
+clear at (k ∷ ks) = (ltb (k + 2) at || ltb (at + 2) k) && clear at ks
 
 -- one more frame, unless `cap` are kept already or one within 2 frames of it is
 unfoldable pub tryAdd : ℕ → List ℕ → ℕ → List ℕ

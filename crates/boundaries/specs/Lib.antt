@@ -1,7 +1,6 @@
 pub mod Keeping
 pub mod Taken
 pub mod Joints
-pub mod JointForm
 pub mod Edges
 pub mod Minima
 pub mod Boundaries

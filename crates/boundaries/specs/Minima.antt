@@ -7,7 +7,8 @@ use lib.Dec.{ltb}
 use lib.Ieee.{Float, binary32, sub, le}
 use Rattle.lists.specs.Results.{filter}
 use Rattle.lists.specs.Candidates.{Candidate}
-use Rattle.smooth.specs.Extrema.{at, lower, inside, localExtrema}
+use Rattle.lists.specs.Frames.{at}
+use Rattle.smooth.specs.Extrema.{lower, inside, localExtrema}
 use Rattle.smooth.specs.declared.extrema.Extremum.the-variants.{Min}
 
 -- the top of the hill on the left of frame i: as far as the level does not fall on the way

@@ -7,8 +7,8 @@ use lib.ListN.{length}
 use lib.Ieee.{Float}
 use Rattle.lists.specs.Results.{consIf}
 use Rattle.lists.specs.By.{Each, Some}
-use Rattle.region.specs.Speech.{speechAt}
-use Rattle.runs.specs.Syllables.{Gap}
+use Rattle.region.specs.Speech.{speechAt, lastOf}
+use Rattle.runs.specs.Runs.{Span}
 use Rattle.boundaries.specs.Edges.{between, changed, loudBeside}
 
 -- each entry is more than 2 frames after the one before it, x the first
@@ -16,15 +16,10 @@ abbrev pub RisesFrom : ℕ → List ℕ → Type 0
 RisesFrom x [] = Unit
 RisesFrom x (y ∷ ys) = (x + 2 < y) × RisesFrom y ys
 
--- the last entry of x and a list
-abbrev pub lastFrom : ℕ → List ℕ → ℕ
-lastFrom x [] = x
-lastFrom x (y ∷ ys) = lastFrom y ys
-
 -- from start to end, any two more than 2 frames apart
 abbrev pub Reaches : ℕ → ℕ → List ℕ → Type 0
 Reaches start end [] = ⊥
-Reaches start end (x ∷ xs) = (x ≡ start) × (lastFrom x xs ≡ end) × RisesFrom x xs
+Reaches start end (x ∷ xs) = (x ≡ start) × (lastOf x xs ≡ end) × RisesFrom x xs
 
 -- some entry is within 2 frames
 abbrev pub Near : ℕ → List ℕ → Type 0
@@ -37,14 +32,14 @@ pub record Promised (start end : ℕ) (nuclei joints bs : List ℕ) : Type 0 whe
   pub near : Each (λ j. Near j bs) joints
 
 -- the pauses among changes of speech: each change out of speech with the one after it, by the edges that are taken there
-abbrev pub pausesAt : List Float → Float → List ℕ → List Gap
+abbrev pub pausesAt : List Float → Float → List ℕ → List Span
 pausesAt db threshold [] = []
 pausesAt db threshold (i ∷ []) = []
 pausesAt db threshold (i ∷ j ∷ js) =
-    consIf (not (speechAt threshold db i)) (record { before = loudBeside db threshold i; after = loudBeside db threshold j }) (pausesAt db threshold (j ∷ js))
+    consIf (not (speechAt threshold db i)) (record { first = loudBeside db threshold i; last = loudBeside db threshold j }) (pausesAt db threshold (j ∷ js))
 
 -- the pauses inside the region, by their two edges
-abbrev pub pausesIn : List Float → Float → ℕ → ℕ → List Gap
+abbrev pub pausesIn : List Float → Float → ℕ → ℕ → List Span
 pausesIn db threshold start end = pausesAt db threshold (between start end (changed (speechAt threshold db)))
 
 -- 4 a nucleus, 2 more, and twice as many as the pauses outnumber the nuclei

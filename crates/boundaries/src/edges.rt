@@ -2,7 +2,9 @@
 use super::taken::add_sorted;
 use floats::plain::magnitude;
 use floats::plain::or_zero;
+use lists::blank::blank_keys;
 use lists::candidates::key_of;
+use region::Bounds;
 use region::is_speech;
 use runs::syllables::dropouts;
 ghost use mathlib.Core.Path.{_≡_};
@@ -11,21 +13,15 @@ ghost use mathlib.Core.List.{[], _∷_, map};
 ghost use Prim.Native.Nat.{_+_, _-_, _≤_, _<_};
 ghost use lib.ListN.{length};
 ghost use Rattle.lists.specs.Results.{Listed, filter};
+ghost use Rattle.lists.specs.Frames.{allFrames};
 ghost use Rattle.lists.specs.By.{Each};
 ghost use Rattle.lists.specs.Candidates.{keyOf, inTurn};
 ghost use Rattle.smooth.specs.Extrema.{inside};
-ghost use Rattle.region.specs.Speech.{speechAt};
-ghost use Rattle.runs.specs.Runs.{voiced};
-ghost use Rattle.boundaries.specs.Taken.{Added, Spread, flagged};
-ghost use Rattle.boundaries.specs.Edges.{changed, jump, loudBeside, pauseEdge, pauseEdges, allFrom, filled, inCreak, gapsOf, voicingEdge, voicingEdges};
+ghost use Rattle.region.specs.Speech.{speechAt, marked};
+ghost use Rattle.runs.specs.Runs.{voiced, spans};
+ghost use Rattle.boundaries.specs.Taken.{Added, Spread};
+ghost use Rattle.boundaries.specs.Edges.{changed, jump, loudBeside, pauseEdge, pauseEdges, filled, inCreak, voicingEdge, voicingEdges};
 ghost use Rattle.boundaries.specs.Boundaries.{creaky};
-
-// Room for the keys of a track.
-fn blank() -> [u64; 2048]
-    ensures { λ r. ⌜ length r ≡ 2048 ⌝ }
-{
-    [0u64; 2048]
-}
 
 // The size of the difference of two values, rounded to f32.
 fn jump_of(x: f32, y: f32) -> f32
@@ -38,11 +34,7 @@ fn jump_of(x: f32, y: f32) -> f32
 fn speech_at(db: &[f32], threshold: f32, i: usize) -> bool
     ensures { λ r. ⌜ r ≡ speechAt threshold (now (db .entry)) i ⌝ }
 {
-    if i < db.len() {
-        is_speech(threshold, db[i])
-    } else {
-        false
-    }
+    i < db.len() && is_speech(threshold, db[i])
 }
 
 // Whether one of frame i and the frame before it is speech and the other not.
@@ -77,7 +69,8 @@ fn pause_key(db: &[f32], threshold: f32, i: usize) -> u64
 // Writes the keys of the pause edges inside the region, and returns how many they are.
 fn pause_keys(db: &[f32], threshold: f32, start: usize, end: usize, out: &mut [u64]) -> usize
     requires { ⌜ (start ≤ end) × (end ≤ length (now db)) × (length (now db) ≤ 2048) × (length (now db) ≤ length (now out)) ⌝ }
-    ensures { λ r. ⌜ Listed (map keyOf (pauseEdges (now (db .entry)) threshold start end)) (now (out .entry)) (now (out .exit)) r ⌝ }
+    ensures { λ r. ⌜ Listed (map keyOf (pauseEdges (now (db .entry)) threshold start end)) (now (out .entry)) (now (out .exit))
+        r ⌝ }
 {
     let mut n: usize = 0;
     let mut i = start + 1;
@@ -92,27 +85,20 @@ fn pause_keys(db: &[f32], threshold: f32, start: usize, end: usize, out: &mut [u
 }
 
 // Tries the edges of pauses inside the region, that of the greatest jump first, the earlier of equal ones.
-pub fn add_pauses(
-    db: &[f32],
-    threshold: f32,
-    start: usize,
-    end: usize,
-    taken: &mut [u8; 2053],
-    count: usize,
-    cap: usize,
-) -> usize
-    requires { ⌜ (start ≤ end) × (end ≤ length (now db)) × (length (now db) ≤ 2048) ⌝ }
-    ensures { λ r. ⌜ Added cap (inTurn (pauseEdges (now (db .entry)) threshold start end)) (now (taken .entry)) count (now (taken .exit)) r ⌝ }
+pub fn add_pauses(db: &[f32], b: Bounds, taken: &mut [u8; 2053], count: usize, cap: usize) -> usize
+    requires { ⌜ (b .start ≤ b .end) × (b .end ≤ length (now db)) × (length (now db) ≤ 2048) ⌝ }
+    ensures { λ r. ⌜ Added cap (inTurn (pauseEdges (now (db .entry)) (b .threshold) (b .start) (b .end))) (now (taken .entry))
+        count (now (taken .exit)) r ⌝ }
 {
-    let mut keys = blank();
-    let m = pause_keys(db, threshold, start, end, &mut keys);
-    let mut room = blank();
+    let mut keys = blank_keys();
+    let m = pause_keys(db, b.threshold, b.start, b.end, &mut keys);
+    let mut room = blank_keys();
     add_sorted(&mut keys[..m], &mut room, taken, count, cap)
 }
 
 // Whether each frame from a on and before b is speech; of none, yes.
 fn all_speech(db: &[f32], threshold: f32, a: usize, b: usize) -> bool
-    ensures { λ r. ⌜ r ≡ allFrom (speechAt threshold (now (db .entry))) a (b - a) ⌝ }
+    ensures { λ r. ⌜ r ≡ allFrames (speechAt threshold (now (db .entry))) a (b - a) ⌝ }
 {
     let mut i = a;
     while i < b {
@@ -139,7 +125,8 @@ pub fn mark_frames(a: usize, b: usize, marks: &mut [u8; 2048])
 // Marks the frames of a gap, and the first after it, where each frame of it is speech.
 fn mark_creak(db: &[f32], threshold: f32, before: u32, after: u32, marks: &mut [u8; 2048])
     requires { ⌜ after < 2048 ⌝ }
-    ensures { λ _. ⌜ Spread (inCreak (filter (filled (speechAt threshold (now (db .entry)))) (gapsOf (before ∷ []) (after ∷ [])))) (now (marks .entry)) (now (marks .exit)) ⌝ }
+    ensures { λ _. ⌜ Spread (inCreak (filter (filled (speechAt threshold (now (db .entry)))) (spans (before ∷ []) (after ∷ []))))
+        (now (marks .entry)) (now (marks .exit)) ⌝ }
 {
     let a = before as usize + 1;
     let b = after as usize;
@@ -152,7 +139,9 @@ fn mark_creak(db: &[f32], threshold: f32, before: u32, after: u32, marks: &mut [
 // Marks the frames that are in creaks, given the frames before and after each dropout.
 fn mark_creaks(db: &[f32], threshold: f32, before: &[u32], after: &[u32], marks: &mut [u8; 2048])
     requires { ⌜ (length (now before) ≡ length (now after)) × Each (λ z. z < 2048) (now after) ⌝ }
-    ensures { λ _. ⌜ Spread (inCreak (filter (filled (speechAt threshold (now (db .entry)))) (gapsOf (now (before .entry)) (now (after .entry))))) (now (marks .entry)) (now (marks .exit)) ⌝ }
+    ensures { λ _. ⌜ Spread (inCreak
+        (filter (filled (speechAt threshold (now (db .entry)))) (spans (now (before .entry)) (now (after .entry)))))
+        (now (marks .entry)) (now (marks .exit)) ⌝ }
 {
     let mut i: usize = 0;
     while i < before.len() {
@@ -175,11 +164,11 @@ pub fn creak_marks(db: &[f32], threshold: f32, pitch: &[f32], marks: &mut [u8; 2
 // Whether just one of frame i and the frame before it has a pitch, and frame i is not marked.
 fn voicing_changes(pitch: &[f32], skip: &[u8; 2048], i: usize) -> bool
     requires { ⌜ (0 < i) × (i < length (now pitch)) × (length (now pitch) ≤ 2048) ⌝ }
-    ensures { λ r. ⌜ r ≡ changed (voiced (now (pitch .entry))) i && not (flagged (now (skip .entry)) i) ⌝ }
+    ensures { λ r. ⌜ r ≡ changed (voiced (now (pitch .entry))) i && not (marked (now (skip .entry)) i) ⌝ }
 {
     let before = pitch[i - 1] != 0.0;
     let here = pitch[i] != 0.0;
-    if before != here { skip[i] != 1 } else { false }
+    before != here && skip[i] != 1
 }
 
 // The key of the voicing edge at frame i.
@@ -199,8 +188,11 @@ fn voicing_keys(
     end: usize,
     out: &mut [u64],
 ) -> usize
-    requires { ⌜ (start ≤ end) × (end ≤ length (now pitch)) × (length (now pitch) ≤ 2048) × (length (now voicing) ≡ length (now pitch)) × (length (now pitch) ≤ length (now out)) ⌝ }
-    ensures { λ r. ⌜ Listed (map keyOf (voicingEdges (now (pitch .entry)) (now (voicing .entry)) (flagged (now (skip .entry))) start end)) (now (out .entry)) (now (out .exit)) r ⌝ }
+    requires { ⌜ (start ≤ end) × (end ≤ length (now pitch)) × (length (now pitch) ≤ 2048)
+        × (length (now voicing) ≡ length (now pitch)) × (length (now pitch) ≤ length (now out)) ⌝ }
+    ensures { λ r. ⌜ Listed (map keyOf
+        (voicingEdges (now (pitch .entry)) (now (voicing .entry)) (marked (now (skip .entry))) start end)) (now (out .entry))
+        (now (out .exit)) r ⌝ }
 {
     let mut n: usize = 0;
     let mut i = start + 1;
@@ -214,22 +206,25 @@ fn voicing_keys(
     n
 }
 
-// Tries the voicing edges inside the region at frames that are not marked, that of the greatest jump first, the earlier of equal ones.
+// Tries the voicing edges inside the region at frames that are not marked, that of the greatest jump first, the earlier of
+// equal ones.
 pub fn add_voicings(
     pitch: &[f32],
     voicing: &[f32],
     skip: &[u8; 2048],
-    start: usize,
-    end: usize,
+    b: Bounds,
     taken: &mut [u8; 2053],
     count: usize,
     cap: usize,
 ) -> usize
-    requires { ⌜ (start ≤ end) × (end ≤ length (now pitch)) × (length (now pitch) ≤ 2048) × (length (now voicing) ≡ length (now pitch)) ⌝ }
-    ensures { λ r. ⌜ Added cap (inTurn (voicingEdges (now (pitch .entry)) (now (voicing .entry)) (flagged (now (skip .entry))) start end)) (now (taken .entry)) count (now (taken .exit)) r ⌝ }
+    requires { ⌜ (b .start ≤ b .end) × (b .end ≤ length (now pitch)) × (length (now pitch) ≤ 2048)
+        × (length (now voicing) ≡ length (now pitch)) ⌝ }
+    ensures { λ r. ⌜ Added cap (inTurn
+        (voicingEdges (now (pitch .entry)) (now (voicing .entry)) (marked (now (skip .entry))) (b .start) (b .end)))
+        (now (taken .entry)) count (now (taken .exit)) r ⌝ }
 {
-    let mut keys = blank();
-    let m = voicing_keys(pitch, voicing, skip, start, end, &mut keys);
-    let mut room = blank();
+    let mut keys = blank_keys();
+    let m = voicing_keys(pitch, voicing, skip, b.start, b.end, &mut keys);
+    let mut room = blank_keys();
     add_sorted(&mut keys[..m], &mut room, taken, count, cap)
 }

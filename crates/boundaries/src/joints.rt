@@ -1,7 +1,9 @@
 // Joints of neighbouring nuclei.
 use super::taken::try_add;
+use region::Bounds;
 use runs::near::Found;
 use runs::near::run_of;
+use runs::syllables::syllable_runs;
 use smooth::extrema::argmin_middle;
 use smooth::extrema::shallow_valley;
 ghost use mathlib.Core.Path.{_≡_};
@@ -11,10 +13,10 @@ ghost use lib.ListN.{length};
 ghost use Rattle.lists.specs.Results.{filter};
 ghost use Rattle.lists.specs.Sorted.{StrictlyRises};
 ghost use Rattle.smooth.specs.Extrema.{argminMiddle};
-ghost use Rattle.runs.specs.Runs.{spans, Within};
-ghost use Rattle.boundaries.specs.Taken.{Added};
+ghost use Rattle.runs.specs.Runs.{spans, SpansLent, Within};
+ghost use Rattle.runs.specs.Syllables.{syllableRuns};
+ghost use Rattle.boundaries.specs.Taken.{Added, jointFrames};
 ghost use Rattle.boundaries.specs.Joints.{joint, inner, jointsInside};
-ghost use Rattle.boundaries.specs.JointForm.{framesOf};
 
 // A joint of two nuclei: the frame of the lowest level between them, or both edges of the pitch break.
 pub enum Joint {
@@ -25,7 +27,7 @@ pub enum Joint {
 // The frame of the lowest level from a to b, as a joint.
 fn lowest_joint(level: &[f32], a: u32, b: u32) -> Joint
     requires { ⌜ (a ≤ b) × (b < length (now level)) × (length (now level) ≤ 2048) ⌝ }
-    ensures { λ r. ⌜ framesOf r ≡ argminMiddle (now (level .entry)) a b ∷ [] ⌝ }
+    ensures { λ r. ⌜ jointFrames r ≡ argminMiddle (now (level .entry)) a b ∷ [] ⌝ }
 {
     Joint::Lowest(argmin_middle(level, a as usize, b as usize) as u32)
 }
@@ -33,8 +35,8 @@ fn lowest_joint(level: &[f32], a: u32, b: u32) -> Joint
 // The joint of the nuclei a and b, given the syllable runs.
 fn joint_of(level: &[f32], first: &[u32], last: &[u32], dip: f32, a: u32, b: u32) -> Joint
     requires { ⌜ (a ≤ b) × (b < length (now level)) × (length (now level) ≤ 2048) ⌝ }
-    requires { ⌜ (length (now first) ≡ length (now last)) × (length (now first) ≤ 2048) × Within (length (now level)) (spans (now first) (now last)) ⌝ }
-    ensures { λ r. ⌜ framesOf r ≡ joint (now (level .entry)) (spans (now (first .entry)) (now (last .entry))) dip a b ⌝ }
+    requires { ⌜ SpansLent (now first) (now last) × Within (length (now level)) (spans (now first) (now last)) ⌝ }
+    ensures { λ r. ⌜ jointFrames r ≡ joint (now (level .entry)) (spans (now (first .entry)) (now (last .entry))) dip a b ⌝ }
 {
     let Found::At(x, _, l) = run_of(first, last, a) else {
         return lowest_joint(level, a, b);
@@ -81,7 +83,7 @@ fn add_joint(
     cap: usize,
 ) -> usize
     requires { ⌜ end ≤ 2048 ⌝ }
-    ensures { λ r. ⌜ Added cap (filter (inner start end) (framesOf j)) (now (taken .entry)) count (now (taken .exit)) r ⌝ }
+    ensures { λ r. ⌜ Added cap (filter (inner start end) (jointFrames j)) (now (taken .entry)) count (now (taken .exit)) r ⌝ }
 {
     match j {
         Joint::Lowest(m) => add_inside(m, start, end, taken, count, cap),
@@ -92,29 +94,61 @@ fn add_joint(
     }
 }
 
-// Tries the joints of neighbouring nuclei that lie strictly inside the region, in order.
-pub fn add_joints(
+// Tries the joints of neighbouring nuclei that lie strictly inside the region, in order, given the syllable runs.
+fn add_joints_over(
     level: &[f32],
     first: &[u32],
     last: &[u32],
     dip: f32,
     nuclei: &[u32],
-    start: usize,
-    end: usize,
+    b: Bounds,
     taken: &mut [u8; 2053],
     count: usize,
     cap: usize,
 ) -> usize
-    requires { ⌜ (end ≤ 2048) × (length (now level) ≤ 2048) × StrictlyRises 0 (length (now level)) (now nuclei) ⌝ }
-    requires { ⌜ (length (now first) ≡ length (now last)) × (length (now first) ≤ 2048) × Within (length (now level)) (spans (now first) (now last)) ⌝ }
-    ensures { λ r. ⌜ Added cap (jointsInside (now (level .entry)) (spans (now (first .entry)) (now (last .entry))) dip start end (now (nuclei .entry))) (now (taken .entry)) count (now (taken .exit)) r ⌝ }
+    requires { ⌜ (b .end ≤ 2048) × (length (now level) ≤ 2048) × StrictlyRises 0 (length (now level)) (now nuclei) ⌝ }
+    requires { ⌜ SpansLent (now first) (now last) × Within (length (now level)) (spans (now first) (now last)) ⌝ }
+    ensures { λ r. ⌜ Added cap (jointsInside (now (level .entry)) (spans (now (first .entry)) (now (last .entry))) dip (b .start)
+        (b .end) (now (nuclei .entry))) (now (taken .entry)) count (now (taken .exit)) r ⌝ }
 {
     let mut n = count;
     let mut i: usize = 0;
     while i + 1 < nuclei.len() {
         let j = joint_of(level, first, last, dip, nuclei[i], nuclei[i + 1]);
-        n = add_joint(j, start, end, taken, n, cap);
+        n = add_joint(j, b.start, b.end, taken, n, cap);
         i += 1;
     }
     n
+}
+
+// Tries the joints of neighbouring nuclei that lie strictly inside the region, in order.
+pub fn add_joints(
+    level: &[f32],
+    pitch: &[f32],
+    dip: f32,
+    nuclei: &[u32],
+    b: Bounds,
+    taken: &mut [u8; 2053],
+    count: usize,
+    cap: usize,
+) -> usize
+    requires { ⌜ (b .end ≤ 2048) × (length (now level) ≤ 2048) × StrictlyRises 0 (length (now level)) (now nuclei)
+        × (length (now level) ≡ length (now pitch)) ⌝ }
+    ensures { λ r. ⌜ Added cap (jointsInside (now (level .entry)) (syllableRuns (now (pitch .entry))) dip (b .start) (b .end)
+        (now (nuclei .entry))) (now (taken .entry)) count (now (taken .exit)) r ⌝ }
+{
+    let mut first = [0u32; 2048];
+    let mut last = [0u32; 2048];
+    let n = syllable_runs(pitch, &mut first, &mut last);
+    add_joints_over(
+        level,
+        &first[..n],
+        &last[..n],
+        dip,
+        nuclei,
+        b,
+        taken,
+        count,
+        cap,
+    )
 }

@@ -16,8 +16,9 @@ ghost use Rattle.lists.specs.Marks.{Once};
 ghost use Rattle.lists.specs.Sorted.{StrictlyRises, sorted};
 ghost use Rattle.lists.specs.Candidates.{keyOf, inTurn};
 ghost use Rattle.smooth.specs.Extrema.{lower};
+ghost use Rattle.region.specs.Speech.{marked};
 ghost use Rattle.boundaries.specs.Keeping.{addAll};
-ghost use Rattle.boundaries.specs.Taken.{Taken, Spread, flagged};
+ghost use Rattle.boundaries.specs.Taken.{Taken, Spread};
 ghost use Rattle.boundaries.specs.Minima.{climbLeft, climbRight, prominenceAt, minimum, inLongSpan, minima};
 
 // A span of more than this many frames is searched for minima.
@@ -42,7 +43,8 @@ fn climb_left(level: &[f32], i: usize) -> usize
 // The top of the hill on the right of frame i, across flat stretches; where the track ends at the latest.
 fn climb_right(level: &[f32], i: usize) -> usize
     requires { ⌜ i < length (now level) ⌝ }
-    ensures { λ r. ⌜ (r ≡ climbRight (now (level .entry)) i (length (now (level .entry)) - (i + 1))) × (r < length (now (level .entry))) ⌝ }
+    ensures { λ r. ⌜ (r ≡ climbRight (now (level .entry)) i (length (now (level .entry)) - (i + 1)))
+        × (r < length (now (level .entry))) ⌝ }
 {
     let mut r = i;
     while r + 1 < level.len() {
@@ -96,8 +98,12 @@ fn minima_keys(
     mins: &[u32],
     out: &mut [u64],
 ) -> usize
-    requires { ⌜ (length (now level) ≤ 2048) × (length (now mins) ≤ length (now out)) × Each (λ m. m < length (now level)) (now mins) ⌝ }
-    ensures { λ r. ⌜ Listed (map keyOf (map (minimum (now (level .entry))) (filter (λ i. flagged (now (spans .entry)) i && not (flagged (now (skip .entry)) i)) (now (mins .entry))))) (now (out .entry)) (now (out .exit)) r ⌝ }
+    requires { ⌜ (length (now level) ≤ 2048) × (length (now mins) ≤ length (now out))
+        × Each (λ m. m < length (now level)) (now mins) ⌝ }
+    ensures { λ r. ⌜ Listed
+        (map keyOf (map (minimum (now (level .entry)))
+        (filter (λ i. marked (now (spans .entry)) i && not (marked (now (skip .entry)) i)) (now (mins .entry)))))
+        (now (out .entry)) (now (out .exit)) r ⌝ }
 {
     let mut n: usize = 0;
     let mut k: usize = 0;
@@ -115,12 +121,13 @@ fn minima_keys(
 // Whether frame i lies in a marked span and is not to be skipped.
 fn is_wanted(skip: &[u8; 2048], spans: &[u8; 2048], i: usize) -> bool
     requires { ⌜ i < 2048 ⌝ }
-    ensures { λ r. ⌜ r ≡ flagged (now (spans .entry)) i && not (flagged (now (skip .entry)) i) ⌝ }
+    ensures { λ r. ⌜ r ≡ marked (now (spans .entry)) i && not (marked (now (skip .entry)) i) ⌝ }
 {
-    if spans[i] == 1 { skip[i] != 1 } else { false }
+    spans[i] == 1 && skip[i] != 1
 }
 
-// Tries the minima inside the long spans of what is kept at frames that are not marked, the most prominent first, the earlier of equal ones.
+// Tries the minima inside the long spans of what is kept at frames that are not marked, the most prominent first, the
+// earlier of equal ones.
 pub fn add_minima(
     level: &[f32],
     skip: &[u8; 2048],
@@ -129,7 +136,10 @@ pub fn add_minima(
     cap: usize,
 ) -> usize
     requires { ⌜ length (now level) ≤ 2048 ⌝ }
-    ensures { λ r. ⌜ ((kept : List ℕ) → Each (λ x. x ≤ length (now (level .entry))) kept → Once kept → Taken kept (now (taken .entry)) count → Taken (addAll cap kept (inTurn (minima (now (level .entry)) (flagged (now (skip .entry))) (sorted kept)))) (now (taken .exit)) r) ⌝ }
+    ensures { λ r. ⌜
+        ((kept : List ℕ) → Each (λ x. x ≤ length (now (level .entry))) kept → Once kept → Taken kept (now (taken .entry)) count
+        → Taken (addAll cap kept (inTurn (minima (now (level .entry)) (marked (now (skip .entry))) (sorted kept))))
+        (now (taken .exit)) r) ⌝ }
 {
     let n = level.len();
     let mut kept = [0u32; 2049];

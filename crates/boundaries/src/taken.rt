@@ -4,13 +4,13 @@ use lists::sort::sort;
 ghost use mathlib.Core.Path.{_≡_};
 ghost use mathlib.Core.List.{[], _∷_, map};
 ghost use Prim.Native.Nat.{_+_, _≤_};
-ghost use lib.ListN.{length, getD};
+ghost use lib.ListN.{length};
 ghost use Rattle.lists.specs.Results.{Listed};
 ghost use Rattle.lists.specs.By.{Each};
 ghost use Rattle.lists.specs.Sorted.{sorted};
 ghost use Rattle.lists.specs.Candidates.{frameIn};
 ghost use Rattle.boundaries.specs.Keeping.{ends};
-ghost use Rattle.boundaries.specs.Taken.{Taken, Added, framesIn};
+ghost use Rattle.boundaries.specs.Taken.{keptNear, Taken, Added, takenFrames};
 
 // A byte as a u32.
 fn wide(x: u8) -> u32
@@ -22,7 +22,7 @@ fn wide(x: u8) -> u32
 // How many frames within 2 of frame at are kept.
 fn near(taken: &[u8; 2053], at: usize) -> u32
     requires { ⌜ at ≤ 2048 ⌝ }
-    ensures { λ r. ⌜ r ≡ getD (now (taken .entry)) at 0 + getD (now (taken .entry)) (at + 1) 0 + getD (now (taken .entry)) (at + 2) 0 + getD (now (taken .entry)) (at + 3) 0 + getD (now (taken .entry)) (at + 4) 0 ⌝ }
+    ensures { λ r. ⌜ r ≡ keptNear (now (taken .entry)) at ⌝ }
 {
     wide(taken[at])
         + wide(taken[at + 1])
@@ -31,7 +31,8 @@ fn near(taken: &[u8; 2053], at: usize) -> u32
         + wide(taken[at + 4])
 }
 
-// Keeps frame at besides the count frames that are kept, unless they are cap or one of them is within 2 frames of it; returns how many are kept then.
+// Keeps frame at besides the count frames that are kept, unless they are cap or one of them is within 2 frames of it;
+// returns how many are kept then.
 pub fn try_add(at: u32, taken: &mut [u8; 2053], count: usize, cap: usize) -> usize
     requires { ⌜ at ≤ 2048 ⌝ }
     ensures { λ r. ⌜ Added cap (at ∷ []) (now (taken .entry)) count (now (taken .exit)) r ⌝ }
@@ -91,7 +92,7 @@ pub fn put_ends(start: usize, end: usize, taken: &mut [u8; 2053]) -> usize
 // Writes the kept frames up to frame n, in order, and returns how many they are.
 pub fn put_taken(taken: &[u8; 2053], n: usize, out: &mut [u32]) -> usize
     requires { ⌜ (n ≤ 2048) × (n + 1 ≤ length (now out)) ⌝ }
-    ensures { λ r. ⌜ Listed (framesIn (now (taken .entry)) n) (now (out .entry)) (now (out .exit)) r ⌝ }
+    ensures { λ r. ⌜ Listed (takenFrames (now (taken .entry)) n) (now (out .entry)) (now (out .exit)) r ⌝ }
 {
     let mut k: usize = 0;
     let mut x: usize = 0;

@@ -1,11 +1,12 @@
 -- After a refusal nothing lent has changed, for each entry, by what its contract says of the call. Assumes nothing.
 use Prim.Native.Nat.{ℕ}
-use mathlib.Core.Path.{_≡_, refl, ap, _∙_, subst}
+use mathlib.Core.Path.{_≡_, refl, sym, ap, _∙_, subst}
 use mathlib.Core.Bool.{false}
 use mathlib.Core.List.{List, []}
 use lib.IntN.{ℤ}
 use lib.Ieee.{Float}
 use Rattle.lists.specs.Results.{Listed, overlay}
+use Rattle.region.specs.Speech.{regionOf}
 use Rattle.region.specs.declared.Settings.{Settings}
 use Rattle.region.specs.declared.Region.{Region}
 use Rattle.region.specs.declared.Region.the-variants.{Nowhere, Span}
@@ -14,19 +15,14 @@ use Rattle.admit.specs.Refusals.{regionRefusal}
 use Rattle.entries.specs.declared.stages.Answer.{Answer}
 use Rattle.entries.specs.declared.stages.Spanned.{Spanned}
 use Rattle.entries.specs.declared.stages.Counted.{Counted}
-use Rattle.entries.specs.Stages.{ifAdmitted, marksEntry, regionEntry, spanned, repairEntry, recoverEntry, nucleiEntry, extrasEntry, edgesEntry, boundariesWithEntry, boundariesEntry}
-use Rattle.entries.specs.Stages.{Unchanged, MarksCall, RegionCall, RepairCall, RecoverCall, NucleiCall, ExtrasCall, BoundariesWithCall, BoundariesCall}
+use Rattle.entries.specs.Stages.{ifAdmitted, spanned, Unchanged, MarksCall, RegionCall, RepairCall, RecoverCall, NucleiCall, ExtrasCall, BoundariesWithCall, BoundariesCall}
 use Rattle.entries.proofs.Entering.{refused-is}
 
--- a call is refused by the number r that it answers, which is that of a definition
-refused-by : {r number : ℕ} → r ≡ number → (r ≡ 0 → ⊥) → number ≡ 0 → ⊥
-refused-by e n z = n (e ∙ z)
-
 -- a lent list, whose entries are read off what a call finds
-unchanged : {A B : Type 0} (f : List A → List B) {number : ℕ} (l : List A) {old new : List B} {r : ℕ} → f [] ≡ [] → (number ≡ 0 → ⊥) → Listed (f (ifAdmitted number l [])) old new r → Unchanged old new r
+unchanged : {A B : Type 0} (f : List A → List B) (l : List A) {number n : ℕ} {old new : List B} {r : ℕ} → f [] ≡ [] → n ≡ number → (n ≡ 0 → ⊥) → Listed (f (ifAdmitted number l [])) old new r → Unchanged old new r
 unfolding overlay
-unchanged f {number} l {old} {new} {r} e n h =
-    let g : Listed [] old new r = subst (λ (k : List _). Listed k old new r) (ap f (refused-is number l [] n) ∙ e) h in
+unchanged f l {old = old} {new} {r} none e n h =
+    let g : Listed [] old new r = subst (λ (k : List _). Listed k old new r) (sym (ap f (refused-is l [] e n)) ∙ none) h in
     record { count = g .count; entries = g .entries }
 
 -- the number that stands with a region
@@ -37,43 +33,36 @@ spanned-number number (Span start end) = refl
 
 module _ (db : List Float) (p : Settings) where
   pub marks-refused : (old new : List ℕ) (r : Answer) → MarksCall db p old new r → (r .refusal ≡ 0 → ⊥) → Unchanged old new (r .count)
-  unfolding marksEntry
-  marks-refused old new r (e, h) n = unchanged (λ (l : List ℕ). l) _ refl (refused-by e n) h
+  marks-refused old new r (e, h) n = unchanged (λ (l : List ℕ). l) _ refl e n h
 
   pub region-refused : (r : Spanned) → RegionCall db p r → (r .refusal ≡ 0 → ⊥) → (r .found ≡ false) × (r .start ≡ 0) × (r .end ≡ 0)
-  unfolding regionEntry spanned
+  unfolding spanned
   region-refused r e n =
-      let number = ap (λ (a : Spanned). a .refusal) e ∙ spanned-number _ (regionEntry db p) in
-      let gone : r ≡ spanned (regionRefusal db p) Nowhere = e ∙ ap (spanned (regionRefusal db p)) (refused-is _ _ _ (refused-by number n)) in
+      let number = ap (λ (a : Spanned). a .refusal) e ∙ spanned-number _ (ifAdmitted (regionRefusal db p) (regionOf db p) Nowhere) in
+      let gone : r ≡ spanned (regionRefusal db p) Nowhere = e ∙ ap (spanned (regionRefusal db p)) (sym (refused-is _ _ number n)) in
       (ap (λ (a : Spanned). a .found) gone, ap (λ (a : Spanned). a .start) gone, ap (λ (a : Spanned). a .end) gone)
 
 pub repair-refused : (old new : List Float) (r : ℕ) → RepairCall old new r → (r ≡ 0 → ⊥) → new ≡ old
-unfolding repairEntry
-repair-refused old new r (e, h) n = h ∙ refused-is _ _ _ (refused-by e n)
+repair-refused old new r (e, h) n = h ∙ sym (refused-is _ _ e n)
 
 pub recover-refused : (samples : List ℤ) (speech vowel : List ℕ) (old new : List Float) (r : ℕ) → RecoverCall samples speech vowel old new r → (r ≡ 0 → ⊥) → new ≡ old
-unfolding recoverEntry
-recover-refused samples speech vowel old new r (e, h) n = h ∙ refused-is _ _ _ (refused-by e n)
+recover-refused samples speech vowel old new r (e, h) n = h ∙ sym (refused-is _ _ e n)
 
 module _ (db pitch : List Float) (start end : ℕ) (p : Settings) (oldFrames newFrames : List ℕ) (oldStrengths newStrengths : List Float) where
   pub nuclei-refused : (r : Answer) →
       NucleiCall db pitch start end p oldFrames newFrames oldStrengths newStrengths r → (r .refusal ≡ 0 → ⊥) →
       Unchanged oldFrames newFrames (r .count) × Unchanged oldStrengths newStrengths (r .count)
-  unfolding nucleiEntry
-  nuclei-refused r (e, f, s) n = (unchanged framesOf _ refl (refused-by e n) f, unchanged strengthsOf _ refl (refused-by e n) s)
+  nuclei-refused r (e, f, s) n = (unchanged framesOf _ refl e n f, unchanged strengthsOf _ refl e n s)
 
   pub extras-refused : (sonority : List Float) (nuclei oldEdges newEdges : List ℕ) (r : Counted) →
       ExtrasCall db pitch sonority start end nuclei p oldFrames newFrames oldStrengths newStrengths oldEdges newEdges r → (r .refusal ≡ 0 → ⊥) →
       Unchanged oldFrames newFrames (r .extras) × Unchanged oldStrengths newStrengths (r .extras) × Unchanged oldEdges newEdges (r .edges)
-  unfolding extrasEntry edgesEntry
   extras-refused sonority nuclei oldEdges newEdges r (e, f, s, g) n =
-      (unchanged framesOf _ refl (refused-by e n) f, unchanged strengthsOf _ refl (refused-by e n) s, unchanged (λ (l : List ℕ). l) _ refl (refused-by e n) g)
+      (unchanged framesOf _ refl e n f, unchanged strengthsOf _ refl e n s, unchanged (λ (l : List ℕ). l) _ refl e n g)
 
 module _ (db pitch voiced : List Float) (start end : ℕ) (nuclei old new : List ℕ) (r : Answer) where
   pub boundaries-with-refused : (p : Settings) → BoundariesWithCall db pitch voiced start end nuclei p old new r → (r .refusal ≡ 0 → ⊥) → Unchanged old new (r .count)
-  unfolding boundariesWithEntry
-  boundaries-with-refused p (e, h) n = unchanged (λ (l : List ℕ). l) _ refl (refused-by e n) h
+  boundaries-with-refused p (e, h) n = unchanged (λ (l : List ℕ). l) _ refl e n h
 
   pub boundaries-refused : BoundariesCall db pitch voiced start end nuclei old new r → (r .refusal ≡ 0 → ⊥) → Unchanged old new (r .count)
-  unfolding boundariesEntry
-  boundaries-refused (e, h) n = unchanged (λ (l : List ℕ). l) _ refl (refused-by e n) h
+  boundaries-refused (e, h) n = unchanged (λ (l : List ℕ). l) _ refl e n h

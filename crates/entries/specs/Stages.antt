@@ -27,94 +27,78 @@ unfoldable pub ifAdmitted : {A : Type 0} → ℕ → A → A → A
 ifAdmitted zero found instead = found
 ifAdmitted (suc k) found instead = instead
 
--- the speech marks, into a list of so many entries
-unfoldable pub marksEntry : List Float → Settings → ℕ → List ℕ
-marksEntry db p marks = ifAdmitted (speechRefusal db p marks) (marksOf db p) []
+-- ---- what a call returns and leaves, as its contract says: `old` is lent, `new` comes back
 
--- the region
-unfoldable pub regionEntry : List Float → Settings → Region
-regionEntry db p = ifAdmitted (regionRefusal db p) (regionOf db p) Nowhere
+-- the number, and what is found in the one list that is lent, or nothing
+abbrev pub Answered : {A : Type 0} → ℕ → List A → List A → List A → Answer → Type 0
+Answered number found old new r = (r .refusal ≡ number) × Listed (ifAdmitted number found []) old new (r .count)
+
+-- the number, and what is made of the track that is lent, or the track as it was
+abbrev pub InPlace : ℕ → List Float → List Float → List Float → ℕ → Type 0
+InPlace number found old new r = (r ≡ number) × (new ≡ ifAdmitted number found old)
 
 -- the number and the values that stand for a region: its two ends, or that none is found and 0 for both
 unfoldable pub spanned : ℕ → Region → Spanned
 spanned refusal Nowhere = record { refusal = refusal; found = false; start = 0; end = 0 }
 spanned refusal (Span start end) = record { refusal = refusal; found = true; start = start; end = end }
 
--- the pitch track after the repair
-unfoldable pub repairEntry : List Float → List Float
-repairEntry pitch = ifAdmitted (repairRefusal pitch) (repaired pitch) pitch
-
--- the pitch track after the recovery
-unfoldable pub recoverEntry : List Float → List ℤ → List ℕ → List ℕ → List Float
-recoverEntry pitch samples speech vowel = ifAdmitted (recoveryRefusal pitch (length samples) speech vowel) (recovered pitch samples speech vowel) pitch
-
--- the nuclei, into two lists of so many entries
-unfoldable pub nucleiEntry : List Float → List Float → ℕ → ℕ → Settings → ℕ → ℕ → List Nucleus
-nucleiEntry db pitch start end p frames strengths = ifAdmitted (nucleiRefusal db pitch start end p frames strengths) (nucleiOf db pitch start end p) []
-
--- the extra candidates, into two lists of so many entries, with a list of so many for the edges
-unfoldable pub extrasEntry : List Float → List Float → List Float → ℕ → ℕ → List ℕ → Settings → ℕ → ℕ → ℕ → List Nucleus
-extrasEntry db pitch sonority start end nuclei p frames strengths edges =
-    ifAdmitted (extrasRefusal db pitch sonority start end nuclei p frames strengths edges) (extrasOf db pitch sonority start end nuclei p) []
-
--- their edges
-unfoldable pub edgesEntry : List Float → List Float → List Float → ℕ → ℕ → List ℕ → Settings → ℕ → ℕ → ℕ → List ℕ
-edgesEntry db pitch sonority start end nuclei p frames strengths edges =
-    ifAdmitted (extrasRefusal db pitch sonority start end nuclei p frames strengths edges) (edgesOf db pitch sonority start end nuclei p) []
-
--- the boundaries under given settings, into a list of so many entries
-unfoldable pub boundariesWithEntry : List Float → List Float → List Float → ℕ → ℕ → List ℕ → Settings → ℕ → List ℕ
-boundariesWithEntry db pitch voiced start end nuclei p bounds =
-    ifAdmitted (boundariesWithRefusal db pitch voiced start end nuclei p bounds) (boundariesOf db pitch voiced start end nuclei p) []
-
--- the boundaries under the defaults
-unfoldable pub boundariesEntry : List Float → List Float → List Float → ℕ → ℕ → List ℕ → ℕ → List ℕ
-boundariesEntry db pitch voiced start end nuclei bounds = ifAdmitted (boundariesRefusal db pitch voiced start end nuclei bounds) (boundariesOf db pitch voiced start end nuclei defaults) []
-
--- ---- what a call returns and leaves, as its contract says: `old` is lent, `new` comes back
-
 -- `speech_marks`
 abbrev pub MarksCall : List Float → Settings → List ℕ → List ℕ → Answer → Type 0
-MarksCall db p old new r = (r .refusal ≡ speechRefusal db p (length old)) × Listed (marksEntry db p (length old)) old new (r .count)
+MarksCall db p old new r = Answered (speechRefusal db p (length old)) (marksOf db p) old new r
 
 -- `region`
 abbrev pub RegionCall : List Float → Settings → Spanned → Type 0
-RegionCall db p r = r ≡ spanned (regionRefusal db p) (regionEntry db p)
+RegionCall db p r = let number = regionRefusal db p in r ≡ spanned number (ifAdmitted number (regionOf db p) Nowhere)
 
--- `repair`, in place
+-- `repair`
 abbrev pub RepairCall : List Float → List Float → ℕ → Type 0
-RepairCall old new r = (r ≡ repairRefusal old) × (new ≡ repairEntry old)
+RepairCall old new r = InPlace (repairRefusal old) (repaired old) old new r
 
--- `recover`, in place
+-- `recover`
 abbrev pub RecoverCall : List ℤ → List ℕ → List ℕ → List Float → List Float → ℕ → Type 0
-RecoverCall samples speech vowel old new r = (r ≡ recoveryRefusal old (length samples) speech vowel) × (new ≡ recoverEntry old samples speech vowel)
+RecoverCall samples speech vowel old new r = InPlace (recoveryRefusal old (length samples) speech vowel) (recovered old samples speech vowel) old new r
 
 -- `nuclei`, into frames and strengths
 abbrev pub NucleiCall : List Float → List Float → ℕ → ℕ → Settings → List ℕ → List ℕ → List Float → List Float → Answer → Type 0
 NucleiCall db pitch start end p oldFrames newFrames oldStrengths newStrengths r =
-    (r .refusal ≡ nucleiRefusal db pitch start end p (length oldFrames) (length oldStrengths))
-    × Listed (framesOf (nucleiEntry db pitch start end p (length oldFrames) (length oldStrengths))) oldFrames newFrames (r .count)
-    × Listed (strengthsOf (nucleiEntry db pitch start end p (length oldFrames) (length oldStrengths))) oldStrengths newStrengths (r .count)
+    let number = nucleiRefusal db pitch start end p (length oldFrames) (length oldStrengths) in
+    let found = ifAdmitted number (nucleiOf db pitch start end p) [] in
+    (r .refusal ≡ number) × Listed (framesOf found) oldFrames newFrames (r .count) × Listed (strengthsOf found) oldStrengths newStrengths (r .count)
 
 -- `extras`, into frames, strengths and edges
 abbrev pub ExtrasCall : List Float → List Float → List Float → ℕ → ℕ → List ℕ → Settings → List ℕ → List ℕ → List Float → List Float → List ℕ → List ℕ → Counted → Type 0
 ExtrasCall db pitch sonority start end nuclei p oldFrames newFrames oldStrengths newStrengths oldEdges newEdges r =
-    (r .refusal ≡ extrasRefusal db pitch sonority start end nuclei p (length oldFrames) (length oldStrengths) (length oldEdges))
-    × Listed (framesOf (extrasEntry db pitch sonority start end nuclei p (length oldFrames) (length oldStrengths) (length oldEdges))) oldFrames newFrames (r .extras)
-    × Listed (strengthsOf (extrasEntry db pitch sonority start end nuclei p (length oldFrames) (length oldStrengths) (length oldEdges))) oldStrengths newStrengths (r .extras)
-    × Listed (edgesEntry db pitch sonority start end nuclei p (length oldFrames) (length oldStrengths) (length oldEdges)) oldEdges newEdges (r .edges)
+    let number = extrasRefusal db pitch sonority start end nuclei p (length oldFrames) (length oldStrengths) (length oldEdges) in
+    let found = ifAdmitted number (extrasOf db pitch sonority start end nuclei p) [] in
+    let edges = ifAdmitted number (edgesOf db pitch sonority start end nuclei p) [] in
+    (r .refusal ≡ number)
+    × Listed (framesOf found) oldFrames newFrames (r .extras)
+    × Listed (strengthsOf found) oldStrengths newStrengths (r .extras)
+    × Listed edges oldEdges newEdges (r .edges)
 
 -- `boundaries_with`
 abbrev pub BoundariesWithCall : List Float → List Float → List Float → ℕ → ℕ → List ℕ → Settings → List ℕ → List ℕ → Answer → Type 0
 BoundariesWithCall db pitch voiced start end nuclei p old new r =
-    (r .refusal ≡ boundariesWithRefusal db pitch voiced start end nuclei p (length old)) × Listed (boundariesWithEntry db pitch voiced start end nuclei p (length old)) old new (r .count)
+    Answered (boundariesWithRefusal db pitch voiced start end nuclei p (length old)) (boundariesOf db pitch voiced start end nuclei p) old new r
 
 -- `boundaries`
 abbrev pub BoundariesCall : List Float → List Float → List Float → ℕ → ℕ → List ℕ → List ℕ → List ℕ → Answer → Type 0
 BoundariesCall db pitch voiced start end nuclei old new r =
-    (r .refusal ≡ boundariesRefusal db pitch voiced start end nuclei (length old)) × Listed (boundariesEntry db pitch voiced start end nuclei (length old)) old new (r .count)
+    Answered (boundariesRefusal db pitch voiced start end nuclei (length old)) (boundariesOf db pitch voiced start end nuclei defaults) old new r
 
 -- what a refused call leaves of a lent list whose count is r
 pub record Unchanged {A : Type 0} (old new : List A) (r : ℕ) : Type 0 where
   pub count : r ≡ 0
   pub entries : new ≡ old
+
+-- ---- what a call finds, into lists of so many entries, for contracts over other lists
+abbrev pub nucleiEntry : List Float → List Float → ℕ → ℕ → Settings → ℕ → ℕ → List Nucleus
+nucleiEntry db pitch start end p frames strengths = ifAdmitted (nucleiRefusal db pitch start end p frames strengths) (nucleiOf db pitch start end p) []
+
+abbrev pub extrasEntry : List Float → List Float → List Float → ℕ → ℕ → List ℕ → Settings → ℕ → ℕ → ℕ → List Nucleus
+extrasEntry db pitch sonority start end nuclei p frames strengths edges =
+    ifAdmitted (extrasRefusal db pitch sonority start end nuclei p frames strengths edges) (extrasOf db pitch sonority start end nuclei p) []
+
+abbrev pub edgesEntry : List Float → List Float → List Float → ℕ → ℕ → List ℕ → Settings → ℕ → ℕ → ℕ → List ℕ
+edgesEntry db pitch sonority start end nuclei p frames strengths edges =
+    ifAdmitted (extrasRefusal db pitch sonority start end nuclei p frames strengths edges) (edgesOf db pitch sonority start end nuclei p) []

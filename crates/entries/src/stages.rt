@@ -106,7 +106,8 @@ pub fn repair(pitch: &mut [f32]) -> u32
 
 // Gives pitches to periodic stretches of speech without one, in place, and returns the refusal number.
 pub fn recover(pitch: &mut [f32], samples: &[i16], speech: &[u8], vowel: &[u8]) -> u32
-    ensures { λ r. ⌜ RecoverCall (now (samples .entry)) (now (speech .entry)) (now (vowel .entry)) (now (pitch .entry)) (now (pitch .exit)) r ⌝ }
+    ensures { λ r. ⌜ RecoverCall (now (samples .entry)) (now (speech .entry)) (now (vowel .entry)) (now (pitch .entry))
+        (now (pitch .exit)) r ⌝ }
 {
     let number = recovery_refusal(pitch, samples.len(), speech, vowel);
     if number != 0 {
@@ -126,7 +127,8 @@ pub fn nuclei(
     frames: &mut [u32],
     strengths: &mut [f32],
 ) -> Answer
-    ensures { λ r. ⌜ NucleiCall (now (db .entry)) (now (pitch .entry)) start end p (now (frames .entry)) (now (frames .exit)) (now (strengths .entry)) (now (strengths .exit)) r ⌝ }
+    ensures { λ r. ⌜ NucleiCall (now (db .entry)) (now (pitch .entry)) start end p (now (frames .entry)) (now (frames .exit))
+        (now (strengths .entry)) (now (strengths .exit)) r ⌝ }
 {
     let number = nuclei_refusal(db, pitch, start, end, p, frames.len(), strengths.len());
     if number != 0 {
@@ -156,7 +158,9 @@ pub fn extras(
     strengths: &mut [f32],
     edges: &mut [u32],
 ) -> Counted
-    ensures { λ r. ⌜ ExtrasCall (now (db .entry)) (now (pitch .entry)) (now (sonority .entry)) start end (now (nuclei .entry)) p (now (frames .entry)) (now (frames .exit)) (now (strengths .entry)) (now (strengths .exit)) (now (edges .entry)) (now (edges .exit)) r ⌝ }
+    ensures { λ r. ⌜ ExtrasCall (now (db .entry)) (now (pitch .entry)) (now (sonority .entry)) start end (now (nuclei .entry)) p
+        (now (frames .entry)) (now (frames .exit)) (now (strengths .entry)) (now (strengths .exit)) (now (edges .entry))
+        (now (edges .exit)) r ⌝ }
 {
     let number = extras_refusal(
         db,
@@ -207,7 +211,8 @@ pub fn boundaries_with(
     p: Settings,
     out: &mut [u32],
 ) -> Answer
-    ensures { λ r. ⌜ BoundariesWithCall (now (db .entry)) (now (pitch .entry)) (now (voiced .entry)) start end (now (nuclei .entry)) p (now (out .entry)) (now (out .exit)) r ⌝ }
+    ensures { λ r. ⌜ BoundariesWithCall (now (db .entry)) (now (pitch .entry)) (now (voiced .entry)) start end
+        (now (nuclei .entry)) p (now (out .entry)) (now (out .exit)) r ⌝ }
 {
     let number = boundaries_with_refusal(db, pitch, voiced, start, end, nuclei, p, out.len());
     if number != 0 {
@@ -233,7 +238,8 @@ pub fn boundaries(
     nuclei: &[u32],
     out: &mut [u32],
 ) -> Answer
-    ensures { λ r. ⌜ BoundariesCall (now (db .entry)) (now (pitch .entry)) (now (voiced .entry)) start end (now (nuclei .entry)) (now (out .entry)) (now (out .exit)) r ⌝ }
+    ensures { λ r. ⌜ BoundariesCall (now (db .entry)) (now (pitch .entry)) (now (voiced .entry)) start end (now (nuclei .entry))
+        (now (out .entry)) (now (out .exit)) r ⌝ }
 {
     let number = boundaries_refusal(db, pitch, voiced, start, end, nuclei, out.len());
     if number != 0 {

@@ -10,24 +10,20 @@ use lib.ListN.{length, List·getD-eq-default}
 use lib.Ieee.{Float}
 use borrow.Author.Tests.{leb-true, leb-false}
 use Rattle.lists.specs.By.{Each}
-use Rattle.lists.specs.Sorted.{StrictlyRises}
 use Rattle.lists.specs.Marks.{member, Marked}
 use Rattle.lists.proofs.Tests.{not-holds}
-use Rattle.lists.proofs.Entries.{each-map}
-use Rattle.lists.proofs.Members.{member-append, each-member, strict-each}
-use Rattle.nuclei.specs.Merging.{Picks}
+use Rattle.lists.proofs.Members.{member-append, each-member}
+use Rattle.lists.proofs.Marking.{flag-is}
 use Rattle.nuclei.specs.Nuclei.{louder}
+use Rattle.nuclei.proofs.Merge.{Picks}
 use Rattle.nuclei.proofs.Choice.{louder-picks}
-use Rattle.extra.specs.Merging.{marked, survivor}
+use Rattle.region.specs.Speech.{marked}
+use Rattle.extra.specs.Merging.{survivor}
 
 -- ---- the marks of a list are its members
 module _ (xs m : List ℕ) (k : Marked xs m) where
   pub marked-at : (x : ℕ) → x < 2048 → marked m x ≡ member xs x
-  marked-at x h = ap (λ (v : ℕ). eqb v 1) (k x h) ∙ go (member xs x)
-    where
-      go : (b : Bool) → eqb (cond b 1 0) 1 ≡ b
-      go true = refl
-      go false = refl
+  marked-at x h = ap (λ (v : ℕ). eqb v 1) (k x h) ∙ flag-is (member xs x)
 
   pub marked-is : length m ≡ 2048 → Each (λ x. x < 2048) xs → marked m ≡ member xs
   marked-is l e = fun-ext (λ x. go x (leb 2048 x) refl)
@@ -42,9 +38,6 @@ module _ (xs m : List ℕ) (k : Marked xs m) where
 -- either of two marks
 pub either-at : (xs ys m n : List ℕ) (x : ℕ) → x < 2048 → Marked xs m → Marked ys n → (marked m x || marked n x) ≡ member (xs ++ ys) x
 either-at xs ys m n x h p q = ap₂ (λ (a b : Bool). a || b) (marked-at xs m p x h) (marked-at ys n q x h) ∙ sym (member-append xs ys x)
-
-pub narrow : (n : ℕ) (xs : List ℕ) → n ≤ 2048 → StrictlyRises 0 n xs → Each (λ x. x < 2048) xs
-narrow n xs h s = each-map (λ x. (0 ≤ x) × (x < n)) (λ x. x < 2048) (λ x p. omega (arith, p .1)) xs (strict-each 0 n xs s)
 
 -- ---- one of two anchors stays
 pub survivor-picks : (s : List Float) (peak : ℕ → Bool) → Picks (survivor s peak)

@@ -1,53 +1,22 @@
--- The mean of a part of a track, and the walk over the frames before which a run may split, with the best so far. Assumes nothing.
-use Prim.Native.Nat.{ℕ, zero, suc, _+_, _-_, _<_, _≤_}
+-- The walk over the frames before which a run may split, with the best so far. Assumes nothing.
+use Prim.Native.Nat.{ℕ, _+_, _-_, _<_, _≤_}
 use native.Mathlib.Omega.{arith}
-use native.Mathlib.Nat.{add-zero}
 use mathlib.Core.Path.{_≡_, refl, sym, ap, subst, _∙_}
 use mathlib.Core.Bool.{Bool, true, false, _&&_, cond, and-false}
 use mathlib.Core.List.{List, [], _∷_, foldl}
-use lib.IntN.{pos}
-use lib.ListN.{length}
-use lib.Seq.{slice, slice-empty, length-slice}
 use lib.Dec.{leb}
-use lib.Ieee.{Float, binary32, le, add, div, ofInt}
-use borrow.Author.Tests.{leb-true, leb-false, le-leb, lt-leb}
-use Rattle.floats.specs.Plain.{plainZero}
+use lib.Ieee.{Float, le}
+use borrow.Author.Tests.{leb-true, le-leb, lt-leb}
 use Rattle.lists.specs.Results.{consIf, keep}
 use Rattle.lists.specs.By.{Each}
 use Rattle.lists.proofs.Tests.{and-cases}
-use Rattle.lists.proofs.Fill.{keep-step, keep-over}
+use Rattle.lists.proofs.Fill.{keep-step, keep-over, keep-pass}
 use Rattle.lists.proofs.Entries.{each-map}
 use Rattle.lists.proofs.Members.{each-keep}
-use Rattle.smooth.specs.Level.{sumOf, meanOf}
-use Rattle.smooth.proofs.Averages.{onward}
 use Rattle.runs.specs.Runs.{Span}
 use Rattle.extra.specs.declared.split.Cut.{Cut}
 use Rattle.extra.specs.declared.split.Cut.the-variants.{Before, Uncut}
-use Rattle.extra.specs.Split.{fifth, change, apart, maySplit, heavier, splitOf}
-
--- ---- the mean of the entries from lo on and before hi
-pub mean-end : (xs : List Float) (lo hi j : ℕ) (sum : Float) → hi ≤ length xs → j ≡ hi → onward xs hi j sum ≡ sumOf (slice lo hi xs) → plainZero (div binary32 sum (ofInt binary32 (pos (hi - lo)))) ≡ meanOf (slice lo hi xs)
-mean-end xs lo hi j sum within e h =
-    let s : sum ≡ sumOf (slice lo hi xs) = ap (foldl (add binary32) sum) (sym (slice-empty hi xs)) ∙ ap (λ (x : ℕ). onward xs hi x sum) (sym e) ∙ h in
-    ap (λ (x : Float). plainZero (div binary32 x (ofInt binary32 (pos (hi - lo))))) s
-    ∙ ap (λ (x : ℕ). plainZero (div binary32 (sumOf (slice lo hi xs)) (ofInt binary32 (pos x)))) (sym (length-slice lo hi xs within))
-
--- ---- frames that do not pass
--- may be left out
-pub keep-pass : (t : ℕ → Bool) (i d n : ℕ) → ((j : ℕ) → i ≤ j → j < i + d → t j ≡ false) → keep t i (n - i) ≡ keep t (i + d) (n - (i + d))
-keep-pass t i zero n f = rw add-zero
-keep-pass t i (suc d) n f = go (leb n i) refl (keep-pass t (i + 1) d n (λ j a b. f j (omega arith) (omega arith)))
-  where
-    e : i + 1 + d ≡ i + suc d
-    e = omega arith
-
-    go : (b : Bool) → leb n i ≡ b → keep t (i + 1) (n - (i + 1)) ≡ keep t (i + 1 + d) (n - (i + 1 + d)) → keep t i (n - i) ≡ keep t (i + suc d) (n - (i + suc d))
-    go true q on =
-        let h : n ≤ i = leb-true n i q in
-        keep-over t i n h ∙ sym (keep-over t (i + suc d) n (omega arith))
-    go false q on =
-        let h : i < n = leb-false n i q in
-        keep-step t i n h ∙ ap (λ (b : Bool). consIf b i (keep t (i + 1) (n - (i + 1)))) (f i (omega arith) (omega arith)) ∙ on ∙ ap (λ (x : ℕ). keep t x (n - x)) e
+use Rattle.extra.specs.Split.{fifth, change, absDiff, maySplit, heavier, splitOf}
 
 -- ---- the best split so far
 -- what the next change must reach
@@ -77,7 +46,7 @@ module _ (son : List Float) (r : Span) (nucleus : ℕ) where
   module _ {best : Cut} {most : Float} {k : ℕ} (c : Cutting best most k) where
     -- far enough from the nucleus, with a change of at least 0.2
     abbrev fair : Bool
-    fair = leb 3 (apart k nucleus) && le fifth (change son k)
+    fair = leb 3 (absDiff k nucleus) && le fifth (change son k)
 
     module _ (h : k + 6 ≤ r .last + 1) where
       fair-is : maySplit son r nucleus k ≡ fair
@@ -88,7 +57,7 @@ module _ (son : List Float) (r : Span) (nucleus : ℕ) where
       step = rw (keep-step (maySplit son r nucleus) k (r .last + 1) (omega arith), fair-is) at (c .same)
 
       large : fair ≡ true → le fifth (change son k) ≡ true
-      large e = and-cases (leb 3 (apart k nucleus)) (le fifth (change son k)) e .1
+      large e = and-cases (leb 3 (absDiff k nucleus)) (le fifth (change son k)) e .1
 
       next : fair ≡ true → heavier (change son) best k ≡ cond (le most (change son k)) (Before k) best
       next e = heavier-is (change son) best k (large e) ∙ ap (λ (x : Float). cond (le x (change son k)) (Before k) best) (sym (c .change-of))
@@ -152,6 +121,6 @@ module _ (son : List Float) (r : Span) (nucleus : ℕ) where
   pub split-within : {k : ℕ} → splitOf son r nucleus ≡ Before k → (r .first + 6 ≤ k) × (k + 5 ≤ r .last)
   unfolding maySplit
   split-within {k} e =
-      let a = and-cases (leb 6 (k - r .first)) (leb 6 (r .last + 1 - k) && (leb 3 (apart k nucleus) && le fifth (change son k))) (subst Allowed e split-allowed) in
-      let b = and-cases (leb 6 (r .last + 1 - k)) (leb 3 (apart k nucleus) && le fifth (change son k)) (a .1) in
+      let a = and-cases (leb 6 (k - r .first)) (leb 6 (r .last + 1 - k) && (leb 3 (absDiff k nucleus) && le fifth (change son k))) (subst Allowed e split-allowed) in
+      let b = and-cases (leb 6 (r .last + 1 - k)) (leb 3 (absDiff k nucleus) && le fifth (change son k)) (a .1) in
       (omega (arith, leb-true 6 (k - r .first) (a .0)), omega (arith, leb-true 6 (r .last + 1 - k) (b .0)))

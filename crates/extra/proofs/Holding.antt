@@ -22,7 +22,8 @@ use Rattle.runs.proofs.Spans.{runAt, spansFrom, spans-step, spans-over, length-
 use lib.Seq.{take-suc}
 use Rattle.extra.specs.declared.seconds.Held.the-variants.{One, Other}
 use Rattle.extra.specs.declared.seconds.Second.{Second}
-use Rattle.extra.specs.Seconds.{holds, onlyOne, heldBy, secondIn, there, seconds, Passed, Reached}
+use Rattle.extra.specs.Seconds.{holds, onlyOne, heldBy, secondIn, there, seconds}
+use Rattle.extra.specs.Passing.{Passed, Reached}
 
 -- ---- the first frame that does not lie before the run
 pub passed-none : (kept : List ℕ) (a : ℕ) → Passed kept a 0

@@ -16,26 +16,25 @@ use Rattle.lists.specs.By.{Each}
 use Rattle.lists.specs.Sorted.{StrictlyRises, IsSorted}
 use Rattle.lists.specs.Marks.{member, inOrder, Once}
 use Rattle.lists.proofs.Tests.{and-cases, and-both, or-cases, or-left, or-right, not-holds}
-use Rattle.lists.proofs.Entries.{each-map, each-append}
-use Rattle.lists.proofs.Members.{member-append, member-filter, member-reverse, each-member, member-each, strict-from, strict-each, strict-few, strict-once, filter-rises, in-order-is, in-order-all, in-order-sorted}
+use Rattle.lists.proofs.Entries.{each-all, each-append}
+use Rattle.lists.proofs.Members.{member-append, member-filter, member-reverse, each-member, member-each, strict-from, strict-each, strict-below, strict-few, strict-once, filter-rises, in-order-is, in-order-all, in-order-sorted}
 use Rattle.smooth.specs.Level.{levels}
 use Rattle.smooth.specs.Extrema.{argminMiddle}
 use Rattle.smooth.specs.declared.extrema.Extremum.the-variants.{Min}
 use Rattle.smooth.proofs.Averages.{length-levels}
 use Rattle.smooth.proofs.Best.{middle-within}
 use Rattle.region.specs.Percentile.{floorOf}
+use Rattle.region.specs.Speech.{boundsOver}
 use Rattle.region.specs.declared.Settings.{Settings}
-use Rattle.region.specs.declared.Floor.{Floor}
-use Rattle.region.specs.declared.Floor.the-variants as floors
 use Rattle.runs.specs.Runs.{Span, longRuns, Spaced}
 use Rattle.runs.specs.Near.{distance}
 use Rattle.runs.proofs.Spacing.{long-spaced}
-use Rattle.nuclei.specs.declared.peaks.Bounds.{Bounds}
+use Rattle.region.specs.declared.Bounds.{Bounds}
 use Rattle.nuclei.specs.Merging.{pushBy, mergeBy, merged}
 use Rattle.nuclei.specs.Peaks.{pitchNear}
-use Rattle.nuclei.specs.Nuclei.{framesOf, nucleiOf}
+use Rattle.nuclei.specs.Nuclei.{nucleusAt, overFloor, framesOf, nucleiOf}
 use Rattle.nuclei.proofs.Pitched.{PitchedRun, long-pitched}
-use Rattle.nuclei.proofs.Promises.{frames-back, take-rises, take-pitched}
+use Rattle.nuclei.proofs.Promises.{over-floor, frames-back, take-rises, take-pitched}
 use Rattle.extra.specs.declared.split.Cut.{Cut}
 use Rattle.extra.specs.declared.split.Cut.the-variants.{Before, Uncut}
 use Rattle.extra.specs.declared.seconds.Held.{Held}
@@ -46,7 +45,7 @@ use Rattle.extra.specs.Unpitched.{unpitchedPeaks}
 use Rattle.extra.specs.Split.{splitOf}
 use Rattle.extra.specs.Merging.{oneSyllable, survivor, anchors}
 use Rattle.extra.specs.Seconds.{holds, onlyOne, heldBy, otherPart, afterCut, besides, secondIn, there, frameOf, edgeOf, seconds}
-use Rattle.extra.specs.Extra.{edgesBetween, candidates, sides, extraFrames, extraEdges, boundsOver, extrasOver, edgesOver, extrasOf, edgesOf}
+use Rattle.extra.specs.Extra.{edgesBetween, candidates, sides, extraFrames, extraEdges, ifAsLong, extrasOf, edgesOf}
 use Rattle.extra.proofs.Voiceless.{peaks-off}
 use Rattle.extra.proofs.Cuts.{split-within}
 use Rattle.extra.proofs.Whole.{anchors-rise}
@@ -134,9 +133,6 @@ once-append (x ∷ xs) ys a b h = (
   once-append xs ys (a .1) b (λ f i j. h f (or-right (eqb x f) (member xs f) i) j),
 )
 
-below : (lo n : ℕ) (xs : List ℕ) → StrictlyRises lo n xs → Each (λ x. x < n) xs
-below lo n xs s = each-map (λ x. (lo ≤ x) × (x < n)) (λ x. x < n) (λ x h. h .1) xs (strict-each lo n xs s)
-
 module _ (s pitch son : List Float) (same : length pitch ≡ length s) where
   spaced : Spaced 0 (length s) (longRuns pitch)
   spaced = subst (λ (n : ℕ). Spaced 0 n (longRuns pitch)) same (long-spaced pitch)
@@ -149,15 +145,15 @@ module _ (s pitch son : List Float) (same : length pitch ≡ length s) where
     unfolding candidates
     candidates-below =
         each-append (λ x. x < length s) (filter (member peaks) kept) (map frameOf (seconds son kept (longRuns pitch)))
-        (below 0 (length s) (filter (member peaks) kept) lone-rise)
-        (below 0 (length s) (map frameOf (seconds son kept (longRuns pitch))) (second-frames-rise son kept 0 (length s) (longRuns pitch) spaced))
+        (strict-below 0 (length s) (filter (member peaks) kept) lone-rise)
+        (strict-below 0 (length s) (map frameOf (seconds son kept (longRuns pitch))) (second-frames-rise son kept 0 (length s) (longRuns pitch) spaced))
 
     pub sides-below : Each (λ x. x < length s) (sides s pitch son peaks kept)
     unfolding sides
     sides-below =
         each-append (λ x. x < length s) (edgesBetween s (member peaks) kept) (map edgeOf (seconds son kept (longRuns pitch)))
         (edges-below s (member peaks) 0 kept rises)
-        (below 0 (length s) (map edgeOf (seconds son kept (longRuns pitch))) (second-edges-rise son kept 0 (length s) (longRuns pitch) spaced))
+        (strict-below 0 (length s) (map edgeOf (seconds son kept (longRuns pitch))) (second-edges-rise son kept 0 (length s) (longRuns pitch) spaced))
 
     -- a second syllable has a pitch near, and an unpitched peak has none
     pub candidates-once : Each (λ x. pitchNear pitch x ≡ false) peaks → Once (candidates pitch son peaks kept)
@@ -281,39 +277,28 @@ module _ (pitch son : List Float) (peaks kept : List ℕ) (f : ℕ) (m : member 
       not-holds (member (xs ++ ys) f) (λ e.
       ⊎-elim
       (λ i. true≢false (sym (and-cases (member peaks f) (member kept f) (sym (member-filter (member peaks) kept f) ∙ i) .0) ∙ m))
-      (λ i. each-member (λ x. x ≡ f → ⊥) ys f (seconds-each son kept (λ x. x ≡ f → ⊥) frameOf (λ r. Unit) (λ r u x e g. off-run r g x e) (longRuns pitch) (all (longRuns pitch))) i refl)
+      (λ i. each-member (λ x. x ≡ f → ⊥) ys f (seconds-each son kept (λ x. x ≡ f → ⊥) frameOf (λ r. Unit) (λ r u x e g. off-run r g x e) (longRuns pitch) (each-all (λ r. Unit) (λ r. tt) (longRuns pitch))) i refl)
       (or-cases (member xs f) (member ys f) (sym (member-append xs ys f) ∙ e)))
-    where
-      all : (rs : List Span) → Each (λ r. Unit) rs
-      all [] = tt
-      all (r ∷ rs) = (tt, all rs)
 
 -- ---- the extras of a take
 module _ (db pitch son : List Float) (start end : ℕ) (nuclei : List ℕ) (p : Settings) where
-  -- what holds of the frames over any floor, and of none
+  -- what holds of none and over any floor
+  by-length : {A : Type 0} (P : List A → Type 0) (over : Float → List A) → P [] → ((x : Float) → P (over x)) → P (ifAsLong db son (overFloor (floorOf db) over))
+  by-length P over n f = go (eqb (length son) (length db))
+    where
+      go : (b : Bool) → P (cond b (overFloor (floorOf db) over) [])
+      go true = over-floor P (floorOf db) over n f
+      go false = n
+
   by-floor : (P : List ℕ → Type 0) → P [] → ((x : Float) → P (extraFrames (levels db) pitch son (boundsOver x p start end) p nuclei)) → P (framesOf (extrasOf db pitch son start end nuclei p))
   unfolding extrasOf
-  by-floor P n f = long (eqb (length son) (length db))
-    where
-      go : (r : Floor) → P (framesOf (extrasOver db pitch son start end nuclei p r))
-      go floors.Nothing = n
-      go (floors.At x) = subst P (sym (frames-back (levels db) x (extraFrames (levels db) pitch son (boundsOver x p start end) p nuclei))) (f x)
-
-      long : (b : Bool) → P (framesOf (cond b (extrasOver db pitch son start end nuclei p (floorOf db)) []))
-      long true = go (floorOf db)
-      long false = n
+  by-floor P n f =
+      let frames : Float → List ℕ = λ x. extraFrames (levels db) pitch son (boundsOver x p start end) p nuclei in
+      by-length (λ ns. P (framesOf ns)) (λ x. map (nucleusAt (levels db) x) (frames x)) n (λ x. subst P (sym (frames-back (levels db) x (frames x))) (f x))
 
   edges-by-floor : (P : List ℕ → Type 0) → P [] → ((x : Float) → P (extraEdges (levels db) pitch son (boundsOver x p start end) p nuclei)) → P (edgesOf db pitch son start end nuclei p)
   unfolding edgesOf
-  edges-by-floor P n f = long (eqb (length son) (length db))
-    where
-      go : (r : Floor) → P (edgesOver db pitch son start end nuclei p r)
-      go floors.Nothing = n
-      go (floors.At x) = f x
-
-      long : (b : Bool) → P (cond b (edgesOver db pitch son start end nuclei p (floorOf db)) [])
-      long true = go (floorOf db)
-      long false = n
+  edges-by-floor P n f = by-length P (λ x. extraEdges (levels db) pitch son (boundsOver x p start end) p nuclei) n f
 
   ordered : (cs : List ℕ) → StrictlyRises 0 (length db) (inOrder cs (length (levels db)))
   ordered cs = subst (λ (n : ℕ). StrictlyRises 0 n (inOrder cs (length (levels db)))) (length-levels db) (in-order-is cs (length (levels db)) .rises)

@@ -1,9 +1,9 @@
 -- Unpitched peaks: they are speech by the level, have no pitch within 2 frames, and rise strictly. Assumes nothing.
-use Prim.Native.Nat.{ℕ, _+_, _<_, _≤_, min}
+use Prim.Native.Nat.{ℕ, _<_, min}
 use native.Mathlib.Omega.{arith}
 use mathlib.Core.Path.{_≡_}
 use mathlib.Core.Bool.{true, false, _&&_, not}
-use mathlib.Core.List.{List, [], _∷_}
+use mathlib.Core.List.{List}
 use lib.ListN.{length}
 use lib.Dec.{leb, ltb}
 use lib.Ieee.{Float, le}
@@ -12,22 +12,18 @@ use Rattle.lists.specs.By.{Each}
 use Rattle.lists.specs.Sorted.{StrictlyRises}
 use Rattle.lists.proofs.Tests.{and-cases}
 use Rattle.lists.proofs.Entries.{each-map, each-filter}
-use Rattle.lists.proofs.Members.{strict-from, filter-rises}
-use Rattle.smooth.specs.Extrema.{at, inside, localExtrema}
+use Rattle.lists.proofs.Members.{strict-from, strict-to, filter-rises}
+use Rattle.lists.specs.Frames.{at}
+use Rattle.smooth.specs.Extrema.{inside, localExtrema}
 use Rattle.smooth.specs.declared.extrema.Extremum.the-variants.{Max}
 use Rattle.smooth.proofs.Stretches.{extrema-rise}
-use Rattle.nuclei.specs.declared.peaks.Bounds.{Bounds}
+use Rattle.region.specs.declared.Bounds.{Bounds}
 use Rattle.nuclei.specs.Peaks.{pitchNear, speechByLevel}
 use Rattle.extra.specs.Unpitched.{vowelLike, unpitched, unpitchedPeaks}
 
 pub speech-inside : (s : List Float) (b : Bounds) (i : ℕ) → speechByLevel s b i ≡ true → i < b .end
 unfolding speechByLevel
 speech-inside s b i e = ltb-true i (b .end) (and-cases (leb (b .start) i) (ltb i (b .end)) (and-cases (inside (b .start) (b .end) i) (le (b .threshold) (at s i)) e .0) .1)
-
--- a list that rises strictly, below a higher bound
-pub strict-to : (lo hi n : ℕ) (xs : List ℕ) → hi ≤ n → StrictlyRises lo hi xs → StrictlyRises lo n xs
-strict-to lo hi n [] h s = tt
-strict-to lo hi n (x ∷ xs) h s = (s .0, omega (arith, s .1), strict-to (x + 1) hi n xs h (s .2))
 
 module _ (s pitch son : List Float) (b : Bounds) where
   -- a frame that passes the test has no pitch near

@@ -3,7 +3,7 @@ use Prim.Native.Nat.{ℕ, _+_, _-_, _<_, _≤_}
 use native.Mathlib.Omega.{arith}
 use mathlib.Core.Path.{_≡_, sym, ap, ap₂, subst, _∙_}
 use mathlib.Core.List.{List, [], _++_, map}
-use lib.ListN.{length, getD, take, drop, length-map, length-append, length-drop}
+use lib.ListN.{length, take, drop, length-map, length-append, length-drop}
 use lib.Seq.{length-take-le, take-append-add, take-append-le}
 use lib.Ieee.{Float}
 use borrow.Author.Tests.{eq-eqb, ne-eqb}
@@ -13,21 +13,23 @@ use Rattle.lists.specs.Results.{Listed, Front}
 use Rattle.lists.specs.Sorted.{StrictlyRises}
 use Rattle.lists.specs.Marks.{member, inOrder}
 use Rattle.lists.proofs.Fill.{listed-take, listed-fits}
-use Rattle.lists.proofs.Entries.{each-at}
-use Rattle.lists.proofs.Members.{strict-each, in-order-is, in-order-few}
+use Rattle.lists.specs.By.{Each}
+use Rattle.lists.proofs.Members.{strict-below, in-order-is, in-order-few}
 use Rattle.smooth.specs.Level.{levels}
 use Rattle.region.specs.Percentile.{floorOf}
+use Rattle.region.specs.Speech.{boundsOver}
 use Rattle.region.specs.declared.Settings.{Settings}
 use Rattle.region.specs.declared.Floor.the-variants.{Nothing, At}
 use Rattle.runs.specs.Runs.{longRuns}
 use Rattle.runs.proofs.Spacing.{long-few}
-use Rattle.nuclei.specs.Nuclei.{nucleusAt, framesOf, strengthsOf}
+use Rattle.nuclei.specs.Nuclei.{nucleusAt}
 use Rattle.nuclei.proofs.Merge.{merged-rises}
 use Rattle.nuclei.proofs.Whole.{listed-nothing}
 use Rattle.extra.specs.Merging.{oneSyllable, survivor, anchors}
 use Rattle.extra.specs.Seconds.{seconds}
 use Rattle.extra.specs.declared.seconds.Second.{Second}
-use Rattle.extra.specs.Extra.{boundsOver, extraFrames, extraEdges, extrasOf, edgesOf}
+use Rattle.extra.specs.declared.Counts.{Counts}
+use Rattle.extra.specs.Extra.{ExtrasListed, extraFrames, extraEdges, extrasOf, edgesOf}
 use Rattle.extra.proofs.Anchoring.{survivor-picks}
 use Rattle.extra.proofs.Holding.{seconds-few}
 
@@ -43,8 +45,8 @@ module _ (cs : List ℕ) (n : ℕ) {old new : List ℕ} {r : ℕ} (l : Listed (i
   pub ordered-few : length (take r new) ≤ n
   ordered-few = subst (λ (xs : List ℕ). length xs ≤ n) (sym (listed-take l)) (in-order-few cs n)
 
-  pub ordered-below : (j : ℕ) → j < length (take r new) → getD (take r new) j 0 < n
-  ordered-below = subst (λ (xs : List ℕ). (j : ℕ) → j < length xs → getD xs j 0 < n) (sym (listed-take l)) (λ j h. each-at (λ x. (0 ≤ x) × (x < n)) (inOrder cs n) 0 (strict-each 0 n (inOrder cs n) (in-order-is cs n .rises)) j h .1)
+  pub ordered-below : Each (λ x. x < n) (take r new)
+  ordered-below = subst (Each (λ x. x < n)) (sym (listed-take l)) (strict-below 0 n (inOrder cs n) (in-order-is cs n .rises))
 
 -- ---- the kept anchors
 pub anchors-rise : (s : List Float) (p : Settings) (nuclei peaks : List ℕ) → StrictlyRises 0 (length s) (anchors s p nuclei peaks)
@@ -72,27 +74,26 @@ seconds-count g pitch son kept l = omega (arith, l .count, length-map (seconds s
 -- ---- the extras of a take
 module _ (db pitch son : List Float) (start end : ℕ) (nuclei : List ℕ) (p : Settings) where
   -- what a call leaves
-  abbrev pub Written : List ℕ → List Float → List ℕ → List ℕ → List Float → List ℕ → ℕ → ℕ → Type 0
-  Written frames₀ strengths₀ edges₀ frames strengths edges n m =
-      Listed (framesOf (extrasOf db pitch son start end nuclei p)) frames₀ frames n × Listed (strengthsOf (extrasOf db pitch son start end nuclei p)) strengths₀ strengths n × Listed (edgesOf db pitch son start end nuclei p) edges₀ edges m
+  abbrev pub Written : List ℕ → List ℕ → List Float → List Float → List ℕ → List ℕ → Counts → Type 0
+  Written = ExtrasListed (extrasOf db pitch son start end nuclei p) (edgesOf db pitch son start end nuclei p)
 
-  none : extrasOf db pitch son start end nuclei p ≡ [] → edgesOf db pitch son start end nuclei p ≡ [] → (frames : List ℕ) (strengths : List Float) (edges : List ℕ) → Written frames strengths edges frames strengths edges 0 0
+  none : extrasOf db pitch son start end nuclei p ≡ [] → edgesOf db pitch son start end nuclei p ≡ [] → (frames : List ℕ) (strengths : List Float) (edges : List ℕ) → Written frames frames strengths strengths edges edges (record { extras = 0; edges = 0 })
   none e f frames strengths edges = rw (e, f) (listed-nothing frames, listed-nothing strengths, listed-nothing edges)
 
   -- a sonority of another length
-  pub extras-unlike : (length son ≡ length db → ⊥) → (frames : List ℕ) (strengths : List Float) (edges : List ℕ) → Written frames strengths edges frames strengths edges 0 0
+  pub extras-unlike : (length son ≡ length db → ⊥) → (frames : List ℕ) (strengths : List Float) (edges : List ℕ) → Written frames frames strengths strengths edges edges (record { extras = 0; edges = 0 })
   unfolding extrasOf edgesOf
   extras-unlike h = none (rw (ne-eqb (length son) (length db) h)) (rw (ne-eqb (length son) (length db) h))
 
   module _ (h : length son ≡ length db) where
     -- no floor
-    pub extras-floorless : floorOf db ≡ Nothing → (frames : List ℕ) (strengths : List Float) (edges : List ℕ) → Written frames strengths edges frames strengths edges 0 0
+    pub extras-floorless : floorOf db ≡ Nothing → (frames : List ℕ) (strengths : List Float) (edges : List ℕ) → Written frames frames strengths strengths edges edges (record { extras = 0; edges = 0 })
     unfolding extrasOf edgesOf
     extras-floorless e = none (rw (eq-eqb (length son) (length db) h, e)) (rw (eq-eqb (length son) (length db) h, e))
 
     -- over a floor
-    pub extras-floored : {x : Float} {frames₀ frames edges₀ edges : List ℕ} {strengths₀ strengths : List Float} {n m : ℕ} → floorOf db ≡ At x →
-        Listed (framesOf (map (nucleusAt (levels db) x) (extraFrames (levels db) pitch son (boundsOver x p start end) p nuclei))) frames₀ frames n × Listed (strengthsOf (map (nucleusAt (levels db) x) (extraFrames (levels db) pitch son (boundsOver x p start end) p nuclei))) strengths₀ strengths n × Listed (extraEdges (levels db) pitch son (boundsOver x p start end) p nuclei) edges₀ edges m →
-        Written frames₀ strengths₀ edges₀ frames strengths edges n m
+    pub extras-floored : {x : Float} {frames₀ frames edges₀ edges : List ℕ} {strengths₀ strengths : List Float} {r : Counts} → floorOf db ≡ At x →
+        ExtrasListed (map (nucleusAt (levels db) x) (extraFrames (levels db) pitch son (boundsOver x p start end) p nuclei)) (extraEdges (levels db) pitch son (boundsOver x p start end) p nuclei) frames₀ frames strengths₀ strengths edges₀ edges r →
+        Written frames₀ frames strengths₀ strengths edges₀ edges r
     unfolding extrasOf edgesOf
     extras-floored e w = rw (eq-eqb (length son) (length db) h, e) w

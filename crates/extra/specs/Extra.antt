@@ -1,22 +1,22 @@
 -- The syllables of a take that the nuclei miss, and their edges. Definitions only.
-use Prim.Native.Nat.{ℕ}
+use Prim.Native.Nat.{ℕ, _≤_}
+use mathlib.Core.Path.{_≡_}
 use mathlib.Core.Bool.{Bool, _||_, cond}
 use mathlib.Core.List.{List, [], _∷_, _++_, map}
 use lib.Dec.{eqb}
 use lib.ListN.{length}
 use lib.Ieee.{Float}
-use Rattle.lists.specs.Results.{consIf, filter}
+use Rattle.lists.specs.Results.{Listed, consIf, filter}
 use Rattle.lists.specs.Marks.{member, inOrder}
 use Rattle.smooth.specs.Level.{levels}
 use Rattle.smooth.specs.Extrema.{argminMiddle}
 use Rattle.region.specs.Percentile.{floorOf}
-use Rattle.region.specs.Speech.{thresholdOver}
+use Rattle.region.specs.Speech.{boundsOver}
 use Rattle.region.specs.declared.Settings.{Settings}
-use Rattle.region.specs.declared.Floor.{Floor}
-use Rattle.region.specs.declared.Floor.the-variants.{Nothing, At}
 use Rattle.runs.specs.Runs.{longRuns}
-use Rattle.nuclei.specs.declared.peaks.Bounds.{Bounds}
-use Rattle.nuclei.specs.Nuclei.{Nucleus, nucleusAt}
+use Rattle.region.specs.declared.Bounds.{Bounds}
+use Rattle.nuclei.specs.Nuclei.{Nucleus, nucleusAt, overFloor, framesOf, strengthsOf}
+use Rattle.extra.specs.declared.Counts.{Counts}
 use Rattle.extra.specs.Unpitched.{unpitchedPeaks}
 use Rattle.extra.specs.Merging.{anchors}
 use Rattle.extra.specs.Seconds.{frameOf, edgeOf, seconds}
@@ -50,28 +50,24 @@ extraEdges s pitch son b p nuclei =
     inOrder (sides s pitch son peaks (anchors s p nuclei peaks)) (length s)
 
 -- ---- of a take
--- the region start .. end, with the threshold over a floor
-abbrev pub boundsOver : Float → Settings → ℕ → ℕ → Bounds
-boundsOver x p start end = record { threshold = thresholdOver (At x) (p .margin); start = start; end = end }
-
--- the extras, given the floor; none where there is none
-abbrev pub extrasOver : List Float → List Float → List Float → ℕ → ℕ → List ℕ → Settings → Floor → List Nucleus
-extrasOver db pitch son start end nuclei p Nothing = []
-extrasOver db pitch son start end nuclei p (At x) = map (nucleusAt (levels db) x) (extraFrames (levels db) pitch son (boundsOver x p start end) p nuclei)
-
--- their edges
-abbrev pub edgesOver : List Float → List Float → List Float → ℕ → ℕ → List ℕ → Settings → Floor → List ℕ
-edgesOver db pitch son start end nuclei p Nothing = []
-edgesOver db pitch son start end nuclei p (At x) = extraEdges (levels db) pitch son (boundsOver x p start end) p nuclei
-
 -- a result of a sonority as long as the track; none of another
 abbrev pub ifAsLong {ℓ} : {A : Type ℓ} → List Float → List Float → List A → List A
 ifAsLong db son res = cond (eqb (length son) (length db)) res []
 
 -- the extras of a take in the region start .. end, beside its nuclei
 unfoldable pub extrasOf : List Float → List Float → List Float → ℕ → ℕ → List ℕ → Settings → List Nucleus
-extrasOf db pitch son start end nuclei p = ifAsLong db son (extrasOver db pitch son start end nuclei p (floorOf db))
+extrasOf db pitch son start end nuclei p = ifAsLong db son (overFloor (floorOf db) (λ x. map (nucleusAt (levels db) x) (extraFrames (levels db) pitch son (boundsOver x p start end) p nuclei)))
 
 -- their edges
 unfoldable pub edgesOf : List Float → List Float → List Float → ℕ → ℕ → List ℕ → Settings → List ℕ
-edgesOf db pitch son start end nuclei p = ifAsLong db son (edgesOver db pitch son start end nuclei p (floorOf db))
+edgesOf db pitch son start end nuclei p = ifAsLong db son (overFloor (floorOf db) (λ x. extraEdges (levels db) pitch son (boundsOver x p start end) p nuclei))
+
+-- ---- in the contracts
+-- level, pitch and sonority of one track
+abbrev pub SameLength : List Float → List Float → List Float → Type 0
+SameLength s pitch son = (length s ≤ 2048) × (length pitch ≡ length s) × (length son ≡ length s)
+
+-- what a call leaves that writes extras and their edges to three lists, and returns how many they are
+abbrev pub ExtrasListed : List Nucleus → List ℕ → List ℕ → List ℕ → List Float → List Float → List ℕ → List ℕ → Counts → Type 0
+ExtrasListed extras edges oldFrames frames oldStrengths strengths oldEdges newEdges r =
+    Listed (framesOf extras) oldFrames frames (r .extras) × Listed (strengthsOf extras) oldStrengths strengths (r .extras) × Listed edges oldEdges newEdges (r .edges)

@@ -2,18 +2,14 @@
 use Prim.Native.Nat.{ℕ, _-_}
 use mathlib.Core.Bool.{Bool, _&&_, _||_, cond}
 use mathlib.Core.List.{List, _++_}
-use lib.Dec.{ltb, eqb}
-use lib.ListN.{length, getD}
+use lib.Dec.{ltb}
+use lib.ListN.{length}
 use lib.Ieee.{Float}
 use Rattle.lists.specs.Marks.{member, inOrder}
 use Rattle.smooth.specs.Extrema.{shallow}
 use Rattle.region.specs.declared.Settings.{Settings}
 use Rattle.nuclei.specs.Merging.{merged}
 use Rattle.nuclei.specs.Nuclei.{louder}
-
--- frame i has a mark
-abbrev pub marked : List ℕ → ℕ → Bool
-marked m i = eqb (getD m i 0) 1
 
 -- ---- anchors, of which `peak` tells the unpitched peaks; the others are nuclei
 -- two anchors are one syllable: closer than the gap, or with no valley between them; two nuclei never are

@@ -1,12 +1,10 @@
 -- The second syllable of a voiced run that holds one nucleus. Definitions only.
-use Prim.Native.Nat.{ℕ, _+_, _-_, _≤_, _<_}
+use Prim.Native.Nat.{ℕ, _-_}
 use mathlib.Core.Bool.{Bool, true, false, cond}
 use mathlib.Core.List.{List, [], _∷_, map}
 use lib.Dec.{leb, ltb}
-use lib.ListN.{length, getD, take}
 use lib.Ieee.{Float}
-use Rattle.lists.specs.Results.{filter}
-use Rattle.lists.specs.By.{Each}
+use Rattle.lists.specs.Results.{Listed, filter}
 use Rattle.smooth.specs.Extrema.{middle}
 use Rattle.runs.specs.Runs.{Span}
 use Rattle.runs.specs.Near.{distance}
@@ -69,12 +67,6 @@ edgeOf Nothing = 0
 unfoldable pub seconds : List Float → List ℕ → List Span → List Second
 seconds son kept rs = filter there (map (secondIn son kept) rs)
 
--- the first q of the kept frames lie more than 2 before frame a
-pub record Passed (kept : List ℕ) (a q : ℕ) : Type 0 where
-  pub within : q ≤ length kept
-  pub earlier : Each (λ f. f + 2 < a) (take q kept)
-
--- and the next, if there is one, does not
-pub record Reached (kept : List ℕ) (a q : ℕ) : Type 0 where
-  pub passed : Passed kept a q
-  pub here : q < length kept → a ≤ getD kept q 0 + 2
+-- what a call leaves that writes the frames and the edges of second syllables to two lists, and returns their count r
+abbrev pub SecondsListed : List Second → List ℕ → List ℕ → List ℕ → List ℕ → ℕ → Type 0
+SecondsListed xs oldFrames frames oldEdges edges r = Listed (map frameOf xs) oldFrames frames r × Listed (map edgeOf xs) oldEdges edges r

@@ -21,12 +21,12 @@ unfoldable pub change : List Float → ℕ → Float
 change son k = magnitude (sub binary32 (meanOf (slice k (k + 2) son)) (meanOf (slice (k - 2) k son)))
 
 -- how far two frames are apart
-abbrev pub apart : ℕ → ℕ → ℕ
-apart a b = max (a - b) (b - a)
+abbrev pub absDiff : ℕ → ℕ → ℕ
+absDiff a b = max (a - b) (b - a)
 
 -- a run may split before frame k: 6 frames or more each side, 3 or more from the nucleus, and a change of at least 0.2
 unfoldable pub maySplit : List Float → Span → ℕ → ℕ → Bool
-maySplit son r nucleus k = leb 6 (k - r .first) && (leb 6 (r .last + 1 - k) && (leb 3 (apart k nucleus) && le fifth (change son k)))
+maySplit son r nucleus k = leb 6 (k - r .first) && (leb 6 (r .last + 1 - k) && (leb 3 (absDiff k nucleus) && le fifth (change son k)))
 
 -- of two frames the one that weighs more, the later on a tie
 abbrev pub heavier : (ℕ → Float) → Cut → ℕ → Cut

@@ -8,7 +8,7 @@ use Rattle.lists.specs.Results.{filter}
 use Rattle.smooth.specs.Level.{window, meanOf}
 use Rattle.smooth.specs.Extrema.{localExtrema}
 use Rattle.smooth.specs.declared.extrema.Extremum.the-variants.{Max}
-use Rattle.nuclei.specs.declared.peaks.Bounds.{Bounds}
+use Rattle.region.specs.declared.Bounds.{Bounds}
 use Rattle.nuclei.specs.Peaks.{pitchNear, speechByLevel}
 
 -- frame i sounds like a vowel: averaged up to 2 frames to each side, the sonority is 0.5 or more

@@ -9,10 +9,11 @@ use lists::marks::in_order;
 use lists::marks::marks;
 use merging::either;
 use merging::merged;
-use nuclei::peaks::Bounds;
 use nuclei::write_nuclei;
+use region::Bounds;
 use region::Floor;
 use region::Settings;
+use region::bounds_over;
 use region::floor_db;
 use seconds::second_syllables;
 use smooth::extrema::argmin_middle;
@@ -23,11 +24,12 @@ ghost use mathlib.Core.List.{map};
 ghost use Prim.Native.Nat.{_+_, _≤_, _<_};
 ghost use lib.ListN.{length};
 ghost use Rattle.lists.specs.Results.{Listed, Front, filter};
+ghost use Rattle.runs.specs.Runs.{RoomOfTwo};
 ghost use Rattle.lists.specs.Sorted.{StrictlyRises};
 ghost use Rattle.lists.specs.Marks.{inOrder};
-ghost use Rattle.nuclei.specs.Nuclei.{framesOf, strengthsOf, nucleusAt};
-ghost use Rattle.extra.specs.Merging.{marked};
-ghost use Rattle.extra.specs.Extra.{edgesBetween, candidates, sides, extraFrames, extraEdges, extrasOf, edgesOf};
+ghost use Rattle.region.specs.Speech.{marked};
+ghost use Rattle.nuclei.specs.Nuclei.{NucleiListed, nucleusAt};
+ghost use Rattle.extra.specs.Extra.{edgesBetween, SameLength, ExtrasListed, candidates, sides, extraFrames, extraEdges, extrasOf, edgesOf};
 
 // How many extras there are, and how many edges.
 pub struct Counts {
@@ -55,8 +57,10 @@ fn those_marked(peaks: &[u8; 2048], kept: &[u32], out: &mut [u32]) -> usize
 
 // Writes the edges between neighbouring anchors of which one at least has a mark, and returns how many they are.
 fn edges_between(s: &[f32], peaks: &[u8; 2048], kept: &[u32], out: &mut [u32]) -> usize
-    requires { ⌜ (length (now s) ≤ 2048) × StrictlyRises 0 (length (now s)) (now kept) × (length (now kept) ≤ length (now out)) ⌝ }
-    ensures { λ r. ⌜ Listed (edgesBetween (now (s .entry)) (marked (now (peaks .entry))) (now (kept .entry))) (now (out .entry)) (now (out .exit)) r ⌝ }
+    requires { ⌜ (length (now s) ≤ 2048) × StrictlyRises 0 (length (now s)) (now kept)
+        × (length (now kept) ≤ length (now out)) ⌝ }
+    ensures { λ r. ⌜ Listed (edgesBetween (now (s .entry)) (marked (now (peaks .entry))) (now (kept .entry))) (now (out .entry))
+        (now (out .exit)) r ⌝ }
 {
     let mut n: usize = 0;
     let mut i: usize = 0;
@@ -80,8 +84,10 @@ fn write_extras(
     frames: &mut [u32],
     strengths: &mut [f32],
 ) -> usize
-    requires { ⌜ (length (now s) ≤ 2048) × (length (now s) ≤ length (now frames)) × (length (now s) ≤ length (now strengths)) ⌝ }
-    ensures { λ r. ⌜ Listed (framesOf (map (nucleusAt (now (s .entry)) floor) (inOrder (now (cands .entry)) (length (now (s .entry)))))) (now (frames .entry)) (now (frames .exit)) r × Listed (strengthsOf (map (nucleusAt (now (s .entry)) floor) (inOrder (now (cands .entry)) (length (now (s .entry)))))) (now (strengths .entry)) (now (strengths .exit)) r ⌝ }
+    requires { ⌜ RoomOfTwo (now s) (now frames) (now strengths) ⌝ }
+    ensures { λ r. ⌜ NucleiListed
+        (map (nucleusAt (now (s .entry)) floor) (inOrder (now (cands .entry)) (length (now (s .entry)))))
+        (now (frames .entry)) (now (frames .exit)) (now (strengths .entry)) (now (strengths .exit)) r ⌝ }
 {
     let mut order = [0u32; 2048];
     let n = in_order(cands, s.len(), &mut order);
@@ -99,8 +105,14 @@ fn gather(
     frames: &mut [u32],
     edges: &mut [u32],
 ) -> Counts
-    requires { ⌜ (length (now s) ≤ 2048) × (length (now pitch) ≡ length (now s)) × (length (now son) ≡ length (now s)) × StrictlyRises 0 (length (now s)) (now peaks) × StrictlyRises 0 (length (now s)) (now kept) × (4096 ≤ length (now frames)) × (4096 ≤ length (now edges)) ⌝ }
-    ensures { λ r. ⌜ Front (candidates (now (pitch .entry)) (now (son .entry)) (now (peaks .entry)) (now (kept .entry))) (now (frames .exit)) (r .extras) × Front (sides (now (s .entry)) (now (pitch .entry)) (now (son .entry)) (now (peaks .entry)) (now (kept .entry))) (now (edges .exit)) (r .edges) ⌝ }
+    requires { ⌜ SameLength (now s) (now pitch) (now son) ⌝ }
+    requires { ⌜ StrictlyRises 0 (length (now s)) (now peaks) × StrictlyRises 0 (length (now s)) (now kept) ⌝ }
+    requires { ⌜ (4096 ≤ length (now frames)) × (4096 ≤ length (now edges)) ⌝ }
+    ensures { λ r. ⌜
+        Front (candidates (now (pitch .entry)) (now (son .entry)) (now (peaks .entry)) (now (kept .entry)))
+        (now (frames .exit)) (r .extras)
+        × Front (sides (now (s .entry)) (now (pitch .entry)) (now (son .entry)) (now (peaks .entry)) (now (kept .entry)))
+        (now (edges .exit)) (r .edges) ⌝ }
 {
     let m = marks(peaks);
     let l = those_marked(&m, kept, frames);
@@ -124,8 +136,18 @@ fn extras_from(
     strengths: &mut [f32],
     edges: &mut [u32],
 ) -> Counts
-    requires { ⌜ (length (now s) ≤ 2048) × (length (now pitch) ≡ length (now s)) × (length (now son) ≡ length (now s)) × StrictlyRises 0 (length (now s)) (now peaks) × StrictlyRises 0 (length (now s)) (now kept) × (length (now s) ≤ length (now frames)) × (length (now s) ≤ length (now strengths)) × (length (now s) ≤ length (now edges)) ⌝ }
-    ensures { λ r. ⌜ Listed (framesOf (map (nucleusAt (now (s .entry)) floor) (inOrder (candidates (now (pitch .entry)) (now (son .entry)) (now (peaks .entry)) (now (kept .entry))) (length (now (s .entry)))))) (now (frames .entry)) (now (frames .exit)) (r .extras) × Listed (strengthsOf (map (nucleusAt (now (s .entry)) floor) (inOrder (candidates (now (pitch .entry)) (now (son .entry)) (now (peaks .entry)) (now (kept .entry))) (length (now (s .entry)))))) (now (strengths .entry)) (now (strengths .exit)) (r .extras) × Listed (inOrder (sides (now (s .entry)) (now (pitch .entry)) (now (son .entry)) (now (peaks .entry)) (now (kept .entry))) (length (now (s .entry)))) (now (edges .entry)) (now (edges .exit)) (r .edges) ⌝ }
+    requires { ⌜ SameLength (now s) (now pitch) (now son) ⌝ }
+    requires { ⌜ StrictlyRises 0 (length (now s)) (now peaks) × StrictlyRises 0 (length (now s)) (now kept) ⌝ }
+    requires { ⌜ (length (now s) ≤ length (now frames)) × (length (now s) ≤ length (now strengths))
+        × (length (now s) ≤ length (now edges)) ⌝ }
+    ensures { λ r. ⌜ ExtrasListed
+        (map (nucleusAt (now (s .entry)) floor)
+        (inOrder (candidates (now (pitch .entry)) (now (son .entry)) (now (peaks .entry)) (now (kept .entry)))
+        (length (now (s .entry)))))
+        (inOrder (sides (now (s .entry)) (now (pitch .entry)) (now (son .entry)) (now (peaks .entry)) (now (kept .entry)))
+        (length (now (s .entry))))
+        (now (frames .entry)) (now (frames .exit)) (now (strengths .entry)) (now (strengths .exit))
+        (now (edges .entry)) (now (edges .exit)) r ⌝ }
 {
     let mut found = [0u32; 4096];
     let mut between = [0u32; 4096];
@@ -153,8 +175,15 @@ fn extras_over(
     strengths: &mut [f32],
     edges: &mut [u32],
 ) -> Counts
-    requires { ⌜ (length (now s) ≤ 2048) × (b .end ≤ length (now s)) × (length (now pitch) ≡ length (now s)) × (length (now son) ≡ length (now s)) × (length (now s) ≤ length (now frames)) × (length (now s) ≤ length (now strengths)) × (length (now s) ≤ length (now edges)) ⌝ }
-    ensures { λ r. ⌜ Listed (framesOf (map (nucleusAt (now (s .entry)) floor) (extraFrames (now (s .entry)) (now (pitch .entry)) (now (son .entry)) b p (now (nuclei .entry))))) (now (frames .entry)) (now (frames .exit)) (r .extras) × Listed (strengthsOf (map (nucleusAt (now (s .entry)) floor) (extraFrames (now (s .entry)) (now (pitch .entry)) (now (son .entry)) b p (now (nuclei .entry))))) (now (strengths .entry)) (now (strengths .exit)) (r .extras) × Listed (extraEdges (now (s .entry)) (now (pitch .entry)) (now (son .entry)) b p (now (nuclei .entry))) (now (edges .entry)) (now (edges .exit)) (r .edges) ⌝ }
+    requires { ⌜ SameLength (now s) (now pitch) (now son) × (b .end ≤ length (now s)) ⌝ }
+    requires { ⌜ (length (now s) ≤ length (now frames)) × (length (now s) ≤ length (now strengths))
+        × (length (now s) ≤ length (now edges)) ⌝ }
+    ensures { λ r. ⌜ ExtrasListed
+        (map (nucleusAt (now (s .entry)) floor)
+        (extraFrames (now (s .entry)) (now (pitch .entry)) (now (son .entry)) b p (now (nuclei .entry))))
+        (extraEdges (now (s .entry)) (now (pitch .entry)) (now (son .entry)) b p (now (nuclei .entry)))
+        (now (frames .entry)) (now (frames .exit)) (now (strengths .entry)) (now (strengths .exit))
+        (now (edges .entry)) (now (edges .exit)) r ⌝ }
 {
     let mut peaks = [0u32; 2048];
     let u = unpitched_peaks(s, pitch, son, b, &mut peaks);
@@ -188,8 +217,15 @@ pub fn extra_candidates(
     strengths: &mut [f32],
     edges: &mut [u32],
 ) -> Counts
-    requires { ⌜ (length (now db) ≤ 2048) × (length (now pitch) ≡ length (now db)) × (end ≤ length (now db)) × (length (now db) ≤ length (now frames)) × (length (now db) ≤ length (now strengths)) × (length (now db) ≤ length (now edges)) ⌝ }
-    ensures { λ r. ⌜ Listed (framesOf (extrasOf (now (db .entry)) (now (pitch .entry)) (now (sonority .entry)) start end (now (nuclei .entry)) p)) (now (frames .entry)) (now (frames .exit)) (r .extras) × Listed (strengthsOf (extrasOf (now (db .entry)) (now (pitch .entry)) (now (sonority .entry)) start end (now (nuclei .entry)) p)) (now (strengths .entry)) (now (strengths .exit)) (r .extras) × Listed (edgesOf (now (db .entry)) (now (pitch .entry)) (now (sonority .entry)) start end (now (nuclei .entry)) p) (now (edges .entry)) (now (edges .exit)) (r .edges) ⌝ }
+    requires { ⌜
+        (length (now db) ≤ 2048) × (length (now pitch) ≡ length (now db)) × (end ≤ length (now db))
+        × (length (now db) ≤ length (now frames)) × (length (now db) ≤ length (now strengths))
+        × (length (now db) ≤ length (now edges)) ⌝ }
+    ensures { λ r. ⌜ ExtrasListed
+        (extrasOf (now (db .entry)) (now (pitch .entry)) (now (sonority .entry)) start end (now (nuclei .entry)) p)
+        (edgesOf (now (db .entry)) (now (pitch .entry)) (now (sonority .entry)) start end (now (nuclei .entry)) p)
+        (now (frames .entry)) (now (frames .exit)) (now (strengths .entry)) (now (strengths .exit))
+        (now (edges .entry)) (now (edges .exit)) r ⌝ }
 {
     if sonority.len() != db.len() {
         return Counts {
@@ -203,18 +239,13 @@ pub fn extra_candidates(
             edges: 0,
         };
     };
-    let b = Bounds {
-        threshold: floor + p.margin,
-        start: start,
-        end: end,
-    };
     let mut s = [0.0f32; 2048];
     smoothed_db(db, &mut s);
     extras_over(
         &s[..db.len()],
         pitch,
         sonority,
-        b,
+        bounds_over(floor, p, start, end),
         floor,
         nuclei,
         p,

@@ -11,14 +11,15 @@ ghost use lib.ListN.{length};
 ghost use Rattle.lists.specs.Results.{Front};
 ghost use Rattle.lists.specs.Sorted.{StrictlyRises};
 ghost use Rattle.lists.specs.Stack.{stack, Kept, Falls};
+ghost use Rattle.region.specs.Speech.{marked};
 ghost use Rattle.nuclei.specs.Merging.{pushBy};
-ghost use Rattle.extra.specs.Merging.{marked, oneSyllable, survivor, anchors};
+ghost use Rattle.extra.specs.Merging.{oneSyllable, survivor, anchors};
 
 // Whether one of two marks is set.
 pub fn either(a: u8, b: u8) -> bool
     ensures { λ r. ⌜ r ≡ (eqb a 1 || eqb b 1) ⌝ }
 {
-    if a == 1 { true } else { b == 1 }
+    a == 1 || b == 1
 }
 
 // Whether two anchors, the earlier first, are one syllable: closer than the gap, or with no valley between them. Two
@@ -28,13 +29,9 @@ fn one_syllable(s: &[f32], p: Settings, peaks: &[u8; 2048], prev: u32, x: u32) -
     ensures { λ r. ⌜ r ≡ oneSyllable (now (s .entry)) p (marked (now (peaks .entry))) prev x ⌝ }
 {
     if either(peaks[prev as usize], peaks[x as usize]) {
-        if x - prev < p.gap {
-            return true;
-        }
-        shallow_valley(s, prev as usize, x as usize, p.dip)
-    } else {
-        false
+        return x - prev < p.gap || shallow_valley(s, prev as usize, x as usize, p.dip);
     }
+    false
 }
 
 // Which of two anchors, the earlier first, stays when they are one syllable: the nucleus; of two peaks without pitch the
@@ -63,7 +60,8 @@ fn push_anchor(
     x: u32,
 ) -> usize
     requires { ⌜ (length (now s) ≤ 2048) × (k < length (now kept)) × (x < length (now s)) × Falls x (stack (now kept) k) ⌝ }
-    ensures { λ r. ⌜ Kept (pushBy (oneSyllable (now (s .entry)) p (marked (now (peaks .entry)))) (survivor (now (s .entry)) (marked (now (peaks .entry)))) (stack (now (kept .entry)) k) x) (now (kept .exit)) r ⌝ }
+    ensures { λ r. ⌜ Kept (pushBy (oneSyllable (now (s .entry)) p (marked (now (peaks .entry))))
+        (survivor (now (s .entry)) (marked (now (peaks .entry)))) (stack (now (kept .entry)) k) x) (now (kept .exit)) r ⌝ }
 {
     if k == 0 {
         kept[0] = x;

@@ -1,22 +1,20 @@
 // The second syllables of voiced runs that hold one nucleus.
 use super::split::Cut;
 use super::split::split;
-use nuclei::peaks::near_start;
+use runs::near::RADIUS;
+use runs::near::near_start;
 use runs::voiced::long_runs;
 ghost use mathlib.Core.Path.{_≡_};
 ghost use mathlib.Core.Bool.{true, _&&_};
-ghost use mathlib.Core.List.{map};
 ghost use Prim.Native.Nat.{_+_, _-_, _≤_, _<_};
 ghost use lib.Dec.{ltb, leb};
 ghost use lib.ListN.{length, getD};
-ghost use Rattle.lists.specs.Results.{Listed, Pushed};
+ghost use Rattle.lists.specs.Results.{Pushed};
 ghost use Rattle.lists.specs.Sorted.{StrictlyRises};
 ghost use Rattle.runs.specs.Runs.{spans, longRuns, Spaced};
 ghost use Rattle.extra.specs.Split.{splitOf};
-ghost use Rattle.extra.specs.Seconds.{heldBy, otherPart, afterCut, secondIn, there, frameOf, edgeOf, seconds, Passed, Reached};
-
-// A run holds the frames at most this far from it.
-const RADIUS: u32 = 2;
+ghost use Rattle.extra.specs.Seconds.{heldBy, otherPart, afterCut, secondIn, there, frameOf, edgeOf, seconds, SecondsListed};
+ghost use Rattle.extra.specs.Passing.{Passed, Reached};
 
 // The one anchor that a run holds, or that it holds none or several.
 pub enum Held {
@@ -51,11 +49,7 @@ fn reaches(kept: &[u32], q: usize, b: u32) -> bool
     requires { ⌜ b < 2048 ⌝ }
     ensures { λ r. ⌜ r ≡ (ltb q (length (now (kept .entry))) && leb (getD (now (kept .entry)) q 0) (b + 2)) ⌝ }
 {
-    if q < kept.len() {
-        kept[q] <= b + RADIUS
-    } else {
-        false
-    }
+    q < kept.len() && kept[q] <= b + RADIUS
 }
 
 // What the run a..=b holds of the kept frames, of which the q-th is the first that does not lie before it.
@@ -87,7 +81,8 @@ fn other_part(a: usize, b: usize, nucleus: usize, k: usize) -> usize
 // The second syllable of the run a..=b, which holds a nucleus.
 fn second_beside(son: &[f32], a: usize, b: usize, nucleus: usize) -> Second
     requires { ⌜ (a ≤ b) × (b < length (now son)) × (length (now son) ≤ 2048) ⌝ }
-    ensures { λ r. ⌜ r ≡ afterCut (record { first = a; last = b }) nucleus (splitOf (now (son .entry)) (record { first = a; last = b }) nucleus) ⌝ }
+    ensures { λ r. ⌜ r ≡ afterCut (record { first = a; last = b }) nucleus
+        (splitOf (now (son .entry)) (record { first = a; last = b }) nucleus) ⌝ }
 {
     let Cut::Before(k) = split(son, a, b, nucleus) else {
         return Second::Nothing;
@@ -99,7 +94,8 @@ fn second_beside(son: &[f32], a: usize, b: usize, nucleus: usize) -> Second
 // The second syllable of the run a..=b; none where it does not hold exactly one of the kept frames, of which the q-th is
 // the first that does not lie before it.
 fn second_in(son: &[f32], kept: &[u32], q: usize, a: u32, b: u32) -> Second
-    requires { ⌜ (a ≤ b) × (b < length (now son)) × (length (now son) ≤ 2048) × StrictlyRises 0 2048 (now kept) × Reached (now kept) a q ⌝ }
+    requires { ⌜ (a ≤ b) × (b < length (now son)) × (length (now son) ≤ 2048) × StrictlyRises 0 2048 (now kept)
+        × Reached (now kept) a q ⌝ }
     ensures { λ r. ⌜ r ≡ secondIn (now (son .entry)) (now (kept .entry)) (record { first = a; last = b }) ⌝ }
 {
     let Held::One(f) = one_held(kept, q, a, b) else {
@@ -111,7 +107,8 @@ fn second_in(son: &[f32], kept: &[u32], q: usize, a: u32, b: u32) -> Second
 // Writes a second syllable at the count n of both lists, if there is one, and returns the new count.
 fn push_second(x: Second, frames: &mut [u32], edges: &mut [u32], n: usize) -> usize
     requires { ⌜ (there x ≡ true → (n < length (now frames)) × (n < length (now edges))) ⌝ }
-    ensures { λ r. ⌜ Pushed (there x) (frameOf x) n (now (frames .entry)) (now (frames .exit)) r × Pushed (there x) (edgeOf x) n (now (edges .entry)) (now (edges .exit)) r ⌝ }
+    ensures { λ r. ⌜ Pushed (there x) (frameOf x) n (now (frames .entry)) (now (frames .exit)) r
+        × Pushed (there x) (edgeOf x) n (now (edges .entry)) (now (edges .exit)) r ⌝ }
 {
     let Second::At(f, e) = x else {
         return n;
@@ -131,8 +128,13 @@ fn seconds_of(
     frames: &mut [u32],
     edges: &mut [u32],
 ) -> usize
-    requires { ⌜ (length (now son) ≤ 2048) × StrictlyRises 0 2048 (now kept) × (length (now first) ≡ length (now last)) × Spaced 0 (length (now son)) (spans (now first) (now last)) × (length (now first) ≤ length (now frames)) × (length (now first) ≤ length (now edges)) ⌝ }
-    ensures { λ r. ⌜ Listed (map frameOf (seconds (now (son .entry)) (now (kept .entry)) (spans (now (first .entry)) (now (last .entry))))) (now (frames .entry)) (now (frames .exit)) r × Listed (map edgeOf (seconds (now (son .entry)) (now (kept .entry)) (spans (now (first .entry)) (now (last .entry))))) (now (edges .entry)) (now (edges .exit)) r ⌝ }
+    requires { ⌜
+        (length (now son) ≤ 2048) × StrictlyRises 0 2048 (now kept)
+        × (length (now first) ≡ length (now last)) × Spaced 0 (length (now son)) (spans (now first) (now last))
+        × (length (now first) ≤ length (now frames)) × (length (now first) ≤ length (now edges)) ⌝ }
+    ensures { λ r. ⌜ SecondsListed
+        (seconds (now (son .entry)) (now (kept .entry)) (spans (now (first .entry)) (now (last .entry))))
+        (now (frames .entry)) (now (frames .exit)) (now (edges .entry)) (now (edges .exit)) r ⌝ }
 {
     let mut q: usize = 0;
     let mut n: usize = 0;
@@ -155,8 +157,12 @@ pub fn second_syllables(
     frames: &mut [u32],
     edges: &mut [u32],
 ) -> usize
-    requires { ⌜ (length (now son) ≤ 2048) × (length (now pitch) ≡ length (now son)) × StrictlyRises 0 2048 (now kept) × (length (now son) ≤ length (now frames)) × (length (now son) ≤ length (now edges)) ⌝ }
-    ensures { λ r. ⌜ Listed (map frameOf (seconds (now (son .entry)) (now (kept .entry)) (longRuns (now (pitch .entry))))) (now (frames .entry)) (now (frames .exit)) r × Listed (map edgeOf (seconds (now (son .entry)) (now (kept .entry)) (longRuns (now (pitch .entry))))) (now (edges .entry)) (now (edges .exit)) r ⌝ }
+    requires { ⌜
+        (length (now son) ≤ 2048) × (length (now pitch) ≡ length (now son)) × StrictlyRises 0 2048 (now kept)
+        × (length (now son) ≤ length (now frames)) × (length (now son) ≤ length (now edges)) ⌝ }
+    ensures { λ r. ⌜ SecondsListed
+        (seconds (now (son .entry)) (now (kept .entry)) (longRuns (now (pitch .entry))))
+        (now (frames .entry)) (now (frames .exit)) (now (edges .entry)) (now (edges .exit)) r ⌝ }
 {
     let mut first = [0u32; 2048];
     let mut last = [0u32; 2048];

@@ -1,16 +1,14 @@
 // Where a voiced run splits: across a sonorant neither level nor pitch parts two syllables, but the spectrum changes where
 // they meet.
 use floats::plain::magnitude;
-use floats::plain::plain_zero;
+use smooth::level::mean;
 ghost use mathlib.Core.Path.{_≡_};
 ghost use mathlib.Core.Bool.{_&&_};
 ghost use Prim.Native.Nat.{_+_, _≤_, _<_};
 ghost use lib.Dec.{leb};
 ghost use lib.ListN.{length};
-ghost use lib.Seq.{slice};
 ghost use lib.Ieee.{le};
-ghost use Rattle.smooth.specs.Level.{meanOf};
-ghost use Rattle.extra.specs.Split.{fifth, change, apart, splitOf};
+ghost use Rattle.extra.specs.Split.{fifth, change, absDiff, splitOf};
 
 // The sonority changes by this much or more across a split.
 const SPLIT_CHANGE: f32 = 0.2;
@@ -27,20 +25,6 @@ pub enum Cut {
     Uncut,
 }
 
-// The mean of the entries from a on and before b, a zero as +0.0; of none a NaN.
-pub fn mean(xs: &[f32], a: usize, b: usize) -> f32
-    requires { ⌜ (a ≤ b) × (b ≤ length (now xs)) × (b ≤ a + 5) ⌝ }
-    ensures { λ r. ⌜ r ≡ meanOf (slice a b (now (xs .entry))) ⌝ }
-{
-    let mut sum = 0.0f32;
-    let mut j = a;
-    while j < b {
-        sum = sum + xs[j];
-        j += 1;
-    }
-    plain_zero(sum / ((b - a) as f32))
-}
-
 // How much the sonority changes across frame k.
 fn change_at(son: &[f32], k: usize) -> f32
     requires { ⌜ (2 ≤ k) × (k + 2 ≤ length (now son)) ⌝ }
@@ -50,8 +34,8 @@ fn change_at(son: &[f32], k: usize) -> f32
 }
 
 // How far two frames are apart.
-fn distance(a: usize, b: usize) -> usize
-    ensures { λ r. ⌜ r ≡ apart a b ⌝ }
+fn abs_diff(a: usize, b: usize) -> usize
+    ensures { λ r. ⌜ r ≡ absDiff a b ⌝ }
 {
     if a < b { b - a } else { a - b }
 }
@@ -59,16 +43,12 @@ fn distance(a: usize, b: usize) -> usize
 // Whether frame k is a better split than the best so far, whose change is the most: far enough from the nucleus, with a
 // change that is large enough and not smaller.
 fn is_better(most: f32, change: f32, nucleus: usize, k: usize) -> bool
-    ensures { λ r. ⌜ r ≡ ((leb 3 (apart k nucleus) && le fifth change) && le most change) ⌝ }
+    ensures { λ r. ⌜ r ≡ ((leb 3 (absDiff k nucleus) && le fifth change) && le most change) ⌝ }
 {
-    if distance(k, nucleus) < SPLIT_FROM_NUCLEUS {
+    if abs_diff(k, nucleus) < SPLIT_FROM_NUCLEUS {
         return false;
     }
-    if SPLIT_CHANGE <= change {
-        most <= change
-    } else {
-        false
-    }
+    SPLIT_CHANGE <= change && most <= change
 }
 
 // Where the run a..=b that holds a nucleus splits: before the frame across which the sonority changes most, the later on

@@ -1,12 +1,12 @@
 // Peaks of the level that sound like a vowel and have no pitch: syllables whose pitch was lost.
-use super::split::mean;
-use nuclei::peaks::Bounds;
-use nuclei::peaks::is_speech;
-use nuclei::peaks::near_end;
-use nuclei::peaks::near_start;
+use nuclei::peaks::level_is_speech;
 use nuclei::peaks::pitch_near;
+use region::Bounds;
+use runs::near::near_end;
+use runs::near::near_start;
 use smooth::extrema::Extremum;
 use smooth::extrema::local_extrema;
+use smooth::level::mean;
 ghost use mathlib.Core.Path.{_≡_};
 ghost use Prim.Native.Nat.{_<_, _≤_};
 ghost use lib.ListN.{length};
@@ -30,15 +30,7 @@ fn unpitched(s: &[f32], pitch: &[f32], son: &[f32], b: Bounds, at: u32) -> bool
     requires { ⌜ (b .end ≤ length (now s)) × (length (now s) ≤ length (now son)) ⌝ }
     ensures { λ r. ⌜ r ≡ unpitched (now (s .entry)) (now (pitch .entry)) (now (son .entry)) b at ⌝ }
 {
-    if is_speech(s, b, at) {
-        if pitch_near(pitch, at) {
-            false
-        } else {
-            vowel_like(son, at)
-        }
-    } else {
-        false
-    }
+    level_is_speech(s, b, at) && (!pitch_near(pitch, at) && vowel_like(son, at))
 }
 
 // Writes those of some peaks that are unpitched, and returns how many they are.
@@ -51,7 +43,8 @@ fn those_unpitched(
     out: &mut [u32],
 ) -> usize
     requires { ⌜ (b .end ≤ length (now s)) × (length (now s) ≤ length (now son)) × (length (now peaks) ≤ length (now out)) ⌝ }
-    ensures { λ r. ⌜ Listed (filter (unpitched (now (s .entry)) (now (pitch .entry)) (now (son .entry)) b) (now (peaks .entry))) (now (out .entry)) (now (out .exit)) r ⌝ }
+    ensures { λ r. ⌜ Listed (filter (unpitched (now (s .entry)) (now (pitch .entry)) (now (son .entry)) b) (now (peaks .entry)))
+        (now (out .entry)) (now (out .exit)) r ⌝ }
 {
     let mut n: usize = 0;
     let mut i: usize = 0;
@@ -68,8 +61,10 @@ fn those_unpitched(
 
 // Writes the unpitched peaks of the level in the region, in order, and returns how many they are.
 pub fn unpitched_peaks(s: &[f32], pitch: &[f32], son: &[f32], b: Bounds, out: &mut [u32]) -> usize
-    requires { ⌜ (length (now s) ≤ 2048) × (b .end ≤ length (now s)) × (length (now s) ≤ length (now son)) × (length (now s) ≤ length (now out)) ⌝ }
-    ensures { λ r. ⌜ Listed (unpitchedPeaks (now (s .entry)) (now (pitch .entry)) (now (son .entry)) b) (now (out .entry)) (now (out .exit)) r ⌝ }
+    requires { ⌜ (length (now s) ≤ 2048) × (b .end ≤ length (now s)) × (length (now s) ≤ length (now son))
+        × (length (now s) ≤ length (now out)) ⌝ }
+    ensures { λ r. ⌜ Listed (unpitchedPeaks (now (s .entry)) (now (pitch .entry)) (now (son .entry)) b) (now (out .entry))
+        (now (out .exit)) r ⌝ }
 {
     let mut peaks = [0u32; 2048];
     let m = local_extrema(s, b.start, b.end, Extremum::Max, &mut peaks);

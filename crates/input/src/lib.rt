@@ -39,7 +39,8 @@ fn room_for(size: usize, at: usize, k: usize) -> usize
 
 // Keeps the bytes that came at `at` of a file, as far as there is room.
 fn keep(bytes: &[u8], file: &mut [u8], at: usize)
-    ensures { λ _. ⌜ now (file .exit) ≡ paste (now (file .entry)) at (now (bytes .entry)) (min (length (now (bytes .entry))) (length (now (file .entry)) - at)) ⌝ }
+    ensures { λ _. ⌜ now (file .exit) ≡ paste (now (file .entry)) at (now (bytes .entry))
+        (min (length (now (bytes .entry))) (length (now (file .entry)) - at)) ⌝ }
 {
     let n = room_for(file.len(), at, bytes.len());
     let mut i: usize = 0;

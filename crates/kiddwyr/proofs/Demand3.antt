@@ -1,180 +1,34 @@
--- Demand 3 of the whole chain: a take times a whole number other than 0 is answered alike, and the boundaries of a found region keep their promises; beside it
--- the order of what is returned, and that a refused call leaves all that was lent. Shown of readings first, which the chain over any lists returns. Assumes nothing.
-use Prim.Native.Nat.{ℕ, zero, suc, _+_, _<_}
-use native.Mathlib.Omega.{arith}
-use mathlib.Core.Path.{_≡_, refl, sym, ap, subst, _∙_}
-use mathlib.Core.Bool.{true, false≢true}
-use mathlib.Core.List.{List}
-use lib.IntN.{ℤ, pos, _*ℤ_}
-use lib.ListN.{length, take, length-map}
-use lib.Ieee.{Float}
+-- DEMAND 3 OF THE CHAIN THAT A CALLER HAS, over nucleus records: a take times a whole number other than 0 is answered and left alike; in every call that finds a
+-- region the boundaries keep their promises; what is returned is in order; a refused call leaves all that was lent. `Demanded` says each. Assumes nothing.
+use Prim.Native.Nat.{ℕ, zero, suc}
+use mathlib.Core.Path.{_≡_, refl, sym, ap, _∙_}
+use mathlib.Core.List.{List, [], _∷_, _++_}
+use lib.ListN.{length, drop, length-map}
 use Rattle.lists.specs.Results.{overlay}
-use Rattle.lists.proofs.Fill.{listed-take}
-use Rattle.region.specs.Speech.{thresholdOf, marksOf, regionOf}
-use Rattle.region.specs.declared.Region.{Region}
-use Rattle.region.specs.declared.Region.the-variants.{Nowhere, Span}
-use Rattle.region.proofs.Spans.{region-size, region-within}
-use Rattle.repair.specs.Repair.{repaired}
-use Rattle.recover.proofs.Scaled.{recovered-scaled}
-use Rattle.nuclei.specs.Nuclei.{nucleiOf, framesOf}
-use Rattle.nuclei.proofs.Promises.{take-rises, take-few}
-use Rattle.extra.specs.Extra.{extrasOf}
-use Rattle.extra.proofs.Promises.{extras-rise, edges-rise, extras-few, edges-few}
-use Rattle.boundaries.specs.Boundaries.{boundariesOf}
-use Rattle.boundaries.proofs.Promise.{promised, with-pauses, reaches-apart, reaches-few}
-use Rattle.kiddwyr.specs.Chain.{Take, Lists, Left, pitchesOf, readingIn, readingOf, unmarked, answered, nothing, counted, written, asLent, readingBy, answerBy, refusalOf, leaves, chainOf}
-use Rattle.kiddwyr.specs.Promises.{scaled, Returned, returned, readOff, Kept, Ordered, Demanded}
-use Rattle.kiddwyr.proofs.Marking.{framed}
+use Rattle.nuclei.specs.Nuclei as found
+use Rattle.chain.specs.Chain.{Take, asLent}
+use Rattle.chain.specs.Promises.{Demanded}
+use Rattle.chain.proofs.Demand3.{refusal-scaled, demanded}
+use Rattle.kiddwyr.specs.declared.Nucleus.{Nucleus}
+use Rattle.kiddwyr.specs.Records.{recordOf, recordsOf, framesIn, Lists, Left, written, refusalOf, chainOf, returned}
+use Rattle.kiddwyr.proofs.Chained.{nothing-in-records}
 
--- ---- a take times a whole number
-module _ (k : ℤ) (nonzero : k ≡ pos 0 → ⊥) (t : Take) where
-  pub reading-scaled : readingOf (scaled k t) ≡ readingOf t
-  unfolding readingOf pitchesOf
-  reading-scaled = rw (recovered-scaled k nonzero (repaired (t .pitch)) (t .samples) (marksOf (t .db) (t .settings)) (t .vowel))
+-- the frames of nuclei, through their records
+frames-past : (k : ℕ) (old : List Nucleus) → framesIn (drop k old) ≡ drop k (framesIn old)
+frames-past zero old = refl
+frames-past (suc k) [] = refl
+frames-past (suc k) (m ∷ old) = frames-past k old
 
-  -- whatever its refusal number
-  pub reading-by-scaled : (number : ℕ) → readingBy (scaled k t) number ≡ readingBy t number
-  unfolding readingBy
-  reading-by-scaled zero = reading-scaled
-  reading-by-scaled (suc n) = refl
+frames-over : (ns : List found.Nucleus) (k : ℕ) (old : List Nucleus) → framesIn (recordsOf ns ++ drop k old) ≡ found.framesOf ns ++ drop k (framesIn old)
+frames-over [] k old = frames-past k old
+frames-over (n ∷ ns) k old = ap (λ (fs : List ℕ). n .frame ∷ fs) (frames-over ns k old)
 
-  pub answer-by-scaled : (number : ℕ) → answerBy (scaled k t) number ≡ answerBy t number
-  unfolding answerBy
-  answer-by-scaled zero = ap answered reading-scaled
-  answer-by-scaled (suc n) = refl
+frames-back : (ns : List found.Nucleus) (old : List Nucleus) → framesIn (overlay (recordsOf ns) old) ≡ overlay (found.framesOf ns) (framesIn old)
+unfolding overlay
+frames-back ns old = frames-over ns (length (recordsOf ns)) old ∙ ap (λ (k : ℕ). found.framesOf ns ++ drop k (framesIn old)) (length-map ns recordOf ∙ sym (length-map ns (λ (n : found.Nucleus). n .frame)))
 
--- ---- what is read off the marks of a region
-no-marks : (t : Take) (pitch : List Float) (number : ℕ) → Ordered t (readOff (nothing number) (unmarked pitch))
-no-marks t pitch number =
-    record {
-      region = (omega arith, omega arith);
-      nuclei = tt;
-      extras = tt;
-      edges = tt;
-      apart = tt;
-      counted = (refl, refl, refl, refl);
-      fit = (omega arith, omega arith, omega arith, omega arith);
-    }
-
-module _ (t : Take) (pitch : List Float) where
-  abbrev told : Region → Returned
-  told r = let m = readingIn (t .db) pitch (t .voiced) (t .sonority) (t .settings) r in readOff (answered m) m
-
-  in-region : (r : Region) → regionOf (t .db) (t .settings) ≡ r → told r .answer .found ≡ true → Kept t (told r)
-  in-region Nowhere e f = absurd (false≢true f)
-  in-region (Span start end) e f =
-      let ns = framesOf (nucleiOf (t .db) pitch start end (t .settings)) in
-      let wide : start + 2 < end = omega (arith, region-size (thresholdOf (t .db) (t .settings)) (t .db) start end e) in
-      record { promised = promised (t .db) pitch (t .voiced) start end ns (t .settings) wide; few = with-pauses (t .db) pitch (t .voiced) start end ns (t .settings) wide }
-
-  in-order : (r : Region) → regionOf (t .db) (t .settings) ≡ r → Ordered t (told r)
-  in-order Nowhere e = no-marks t pitch 0
-  in-order (Span start end) e =
-      let found = nucleiOf (t .db) pitch start end (t .settings) in
-      let ns = framesOf found in
-      let bs = boundariesOf (t .db) pitch (t .voiced) start end ns (t .settings) in
-      let size = region-size (thresholdOf (t .db) (t .settings)) (t .db) start end e in
-      let within = region-within (thresholdOf (t .db) (t .settings)) (t .db) start end e in
-      let reach = promised (t .db) pitch (t .voiced) start end ns (t .settings) (omega (arith, size)) .rise in
-      record {
-        region = (omega (arith, size), within);
-        nuclei = take-rises (t .db) pitch start end (t .settings) within;
-        extras = extras-rise (t .db) pitch (t .sonority) start end ns (t .settings);
-        edges = edges-rise (t .db) pitch (t .sonority) start end ns (t .settings);
-        apart = reaches-apart start end bs reach;
-        counted = (framed found, framed (extrasOf (t .db) pitch (t .sonority) start end ns (t .settings)), refl, refl);
-        fit = (
-          omega (arith, framed found, take-few (t .db) pitch start end (t .settings) within),
-          extras-few (t .db) pitch (t .sonority) start end ns (t .settings),
-          edges-few (t .db) pitch (t .sonority) start end ns (t .settings),
-          omega (arith, within, reaches-few start end bs reach),
-        );
-      }
-
--- ---- what is read off a call, by its refusal number
-module _ (t : Take) where
-  abbrev pub returnedBy : ℕ → Returned
-  returnedBy number = readOff (answerBy t number) (readingBy t number)
-
-  pub kept-by : (number : ℕ) → returnedBy number .answer .found ≡ true → Kept t (returnedBy number)
-  unfolding readingBy answerBy readingOf
-  kept-by zero f = in-region t (pitchesOf t) (regionOf (t .db) (t .settings)) refl f
-  kept-by (suc k) f = absurd (false≢true f)
-
-  pub ordered-by : (number : ℕ) → Ordered t (returnedBy number)
-  unfolding readingBy answerBy readingOf
-  ordered-by zero = in-order t (pitchesOf t) (regionOf (t .db) (t .settings)) refl
-  ordered-by (suc k) = no-marks t (t .pitch) (suc k)
-
-  -- the number that is answered
-  pub number-by : (number : ℕ) → answerBy t number .refusal ≡ number
-  unfolding answerBy
-  number-by zero = go (readingOf t .region)
-    where
-      go : (r : Region) → counted (readingOf t) r .refusal ≡ 0
-      go Nowhere = refl
-      go (Span start end) = refl
-  number-by (suc k) = refl
-
-  -- the answer counts what is read
-  pub counts : (number : ℕ) → let m = readingBy t number in let a = answerBy t number in
-      (a .nuclei ≡ length (m .nuclei)) × (a .extras ≡ length (m .extras)) × (a .edges ≡ length (m .edges)) × (a .boundaries ≡ length (m .boundaries))
-  counts number =
-      let o = ordered-by number .counted in
-      let m = readingBy t number in
-      (sym (o .0) ∙ framed (m .nuclei), sym (o .1) ∙ framed (m .extras), sym (o .2), sym (o .3))
-
--- ---- the chain over lists of any kind, by what it leaves at each refusal number
-module _ {O : Type 0} (read : O → Returned) (leaves : Take → ℕ → O) (refusal : Take → ℕ) (asLent : Take → ℕ → O)
-    (reads : (t : Take) (number : ℕ) → read (leaves t number) ≡ returnedBy t number)
-    (number-alike : (k : ℤ) (t : Take) → refusal (scaled k t) ≡ refusal t)
-    (left-alike : (k : ℤ) → (k ≡ pos 0 → ⊥) → (t : Take) (number : ℕ) → leaves (scaled k t) number ≡ leaves t number)
-    (as-lent : (t : Take) (k : ℕ) → leaves t (suc k) ≡ asLent t (suc k)) where
-  left-refused : (t : Take) (number : ℕ) → (number ≡ 0 → ⊥) → leaves t number ≡ asLent t number
-  left-refused t zero n = absurd (n refl)
-  left-refused t (suc k) n = as-lent t k
-
-  pub demanded : (t : Take) (o : O) → o ≡ leaves t (refusal t) → Demanded (λ (t : Take). leaves t (refusal t)) read (asLent t) t o
-  demanded t o e =
-      let n = refusal t in
-      let r : read o ≡ returnedBy t n = ap read e ∙ reads t n in
-      let number : read o .answer .refusal ≡ n = ap (λ (x : Returned). x .answer .refusal) r ∙ number-by t n in
-      record {
-        alike = λ k nonzero other p. p ∙ left-alike k nonzero t (refusal (scaled k t)) ∙ ap (leaves t) (number-alike k t) ∙ sym e;
-        kept = λ f. subst (Kept t) (sym r) (kept-by t n (sym (ap (λ (x : Returned). x .answer .found) r) ∙ f));
-        ordered = subst (Ordered t) (sym r) (ordered-by t n);
-        refused = λ some. e ∙ left-refused t n (λ z. some (number ∙ z)) ∙ ap (asLent t) (sym number);
-      }
-
--- ---- over plain lists
--- what was written is read back, by its count
-pub take-back : {A : Type 0} (res old : List A) (r : ℕ) → r ≡ length res → take r (overlay res old) ≡ res
-take-back res old r e = listed-take (record { count = e; entries = refl })
-
--- what a call leaves, by its refusal number
-pub leaves-by : (t : Take) (l : Lists) (number : ℕ) → leaves t l number ≡ record { answer = answerBy t number; pitch = readingBy t number .pitch; lists = written (readingBy t number) l }
-unfolding readingBy answerBy overlay
-leaves-by t l zero = refl
-leaves-by t l (suc k) = refl
-
-module _ (l : Lists) where
-  read-back : (t : Take) (number : ℕ) → returned (leaves t l number) ≡ returnedBy t number
-  read-back t number =
-      let m = readingBy t number in
-      let c = counts t number in
-      rw (
-        leaves-by t l number,
-        take-back (framesOf (m .nuclei)) (l .frames) _ (c .0 ∙ sym (framed (m .nuclei))),
-        take-back (framesOf (m .extras)) (l .xframes) _ (c .1 ∙ sym (framed (m .extras))),
-        take-back (m .edges) (l .edges) _ (c .2),
-        take-back (m .boundaries) (l .bounds) _ (c .3),
-      )
-
-  left-scaled : (k : ℤ) → (k ≡ pos 0 → ⊥) → (t : Take) (number : ℕ) → leaves (scaled k t) l number ≡ leaves t l number
-  left-scaled k nonzero t zero = rw (reading-scaled k nonzero t)
-  left-scaled k nonzero t (suc n) = refl
-
-  -- the theorem, of every call of the chain by what it answers and leaves
-  pub chain-demanded : (t : Take) (o : Left) → o ≡ chainOf t l → Demanded (λ (t : Take). chainOf t l) returned (asLent t l) t o
-  unfolding chainOf
-  chain-demanded = demanded returned (λ (t : Take). leaves t l) (λ (t : Take). refusalOf t l) (λ (t : Take). asLent t l) read-back (λ k t. rw (length-map (t .samples) (λ (z : ℤ). k *ℤ z))) left-scaled (λ t k. refl)
+pub chain-demanded : (l : Lists) (t : Take) (o : Left) → o ≡ chainOf t l → Demanded (λ (t : Take). chainOf t l) returned (asLent t l) t o
+unfolding chainOf
+chain-demanded l =
+    demanded written l _ _ _ _ (λ pitch. nothing-in-records pitch l) (λ (t : Take). refusalOf t l) (λ k t. refusal-scaled k t _ _ _ _ _ _)
+    (λ m. (frames-back (m .nuclei) (l .nuclei), frames-back (m .extras) (l .extras), refl, refl))

@@ -1,2 +1,8 @@
-pub mod Marking
+pub mod Chained
 pub mod Demand3
+pub mod Entries
+pub mod Filling
+pub mod Given
+pub mod Rooms
+pub mod Steps
+pub mod Wrapped

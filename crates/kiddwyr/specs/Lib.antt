@@ -1,2 +1,2 @@
-pub mod Chain
-pub mod Promises
+pub mod Records
+pub mod Within

@@ -3,22 +3,23 @@ use mathlib.Core.Path.{refl}
 use mathlib.Core.List.{flatMap}
 use lib.Ieee.{add, sub, mul, div, round, ofInt, toUnsigned, toBits, ofBits, lt, le, eq, ne}
 use Rattle.floats.specs.Narrow.{narrow}
+use Rattle.lists.specs.Frames.{tabulate, someFrame, allFrames, firstFrame}
 use Rattle.lists.specs.Results.{overlay, filter, keep}
 use Rattle.lists.specs.Marks.{member, inOrder}
 use Rattle.powers.specs.Pitch.{breaksIn, stepIn, octaveIn}
 use Rattle.smooth.specs.Level.{means, levels}
-use Rattle.smooth.specs.Extrema.{flatFirst, flatLast, isExtremum, localExtrema, someFrame, firstFrame, firstBest, extremumMiddle, furthest, shallow}
+use Rattle.smooth.specs.Extrema.{flatFirst, flatLast, isExtremum, localExtrema, firstBest, extremumMiddle, furthest, shallow}
 use Rattle.region.specs.Defaults.{defaults}
 use Rattle.region.specs.Percentile.{tenthOf}
 use Rattle.region.specs.Speech.{regionIn}
-use Rattle.runs.specs.Grouped.{attach, grouped}
+use Rattle.lists.specs.Grouped.{attach, grouped}
 use Rattle.runs.specs.Runs.{voicedFrames, voicedRuns, longRuns}
 use Rattle.runs.specs.Near.{nearest, runOf, separate}
 use Rattle.runs.specs.Syllables.{breaksFrom, syllablesOf, syllableRuns, gaps, dropoutsOf, dropouts}
 use Rattle.nsdf.specs.Nsdf.{cross, power, nsdf, window}
 use Rattle.repair.specs.Repair.{framesIn, neighbours, beside, repairedAmong, repaired}
-use Rattle.recover.specs.Estimates.{tabulate, estimates}
-use Rattle.recover.specs.Recovered.{startOf, cutFrom, quiet, recoveredFrom, recovered}
+use Rattle.recover.specs.Estimates.{estimates}
+use Rattle.recover.specs.Recovered.{startOf, recoveredFrom, recoveredBy}
 use Rattle.nuclei.specs.Merging.{pushBy, mergeBy, merged}
 use Rattle.nuclei.specs.Peaks.{pitchNear, speechByLevel, voicedPeak, ontoRun, peaksOnto, voicedPeaks}
 use Rattle.nuclei.specs.Tops.{runsHeld, unheldFrom, unheld, hasTop, standsAlone, topOf, onFlank, topsOf}
@@ -31,13 +32,14 @@ use Rattle.extra.specs.Extra.{edgesBetween, sides, extraFrames, extraEdges, ext
 use Rattle.extra.specs.Extra.{candidates as extraCandidates}
 use Rattle.boundaries.specs.Keeping.{clear, tryAdd, addAll}
 use Rattle.boundaries.specs.Joints.{joint, joints, jointsInside}
-use Rattle.boundaries.specs.Edges.{between, pauseEdges, allFrom, creaks, inCreak, voicingEdges}
+use Rattle.boundaries.specs.Edges.{between, pauseEdges, creaks, inCreak, voicingEdges}
 use Rattle.boundaries.specs.Minima.{inLongSpan, minima}
 use Rattle.boundaries.specs.Boundaries.{chosen, boundariesIn}
-use Rattle.admit.specs.Values.{dbAdmitted, pitchAdmitted, settingsAdmitted, allOf}
-use Rattle.admit.specs.Refusals.{refuse, regionRefusal, chainRefusal}
-use Rattle.entries.specs.Stages.{ifAdmitted, regionEntry, spanned}
-use Rattle.kiddwyr.specs.Chain.{pitchesOf, readingOf, chainOf}
+use Rattle.admit.specs.Values.{dbAdmitted, pitchAdmitted, allOf}
+use Rattle.admit.specs.First.{firstOf, passes, firstFailed}
+use Rattle.admit.specs.Refusals.{tested, refusal, regionRefusal, chainRefusal}
+use Rattle.entries.specs.Stages.{ifAdmitted, spanned}
+use Rattle.chain.specs.Chain.{pitchesOf, readingOf, chainOf}
 use Rattle.take.specs.Fields.{halfAt, wordAt}
 use Rattle.take.specs.File.{agrees, refusalOf, records, takeIn, readTake}
 use Rattle.take.specs.Text.{glyph, hexDigits, decimalIn}
@@ -47,5 +49,5 @@ use Rattle.lists.specs.By.{Each}
 use Rattle.known.specs.Table.{Right, known}
 
 pub known-right : Each Right known
-unfolding known chainOf overlay quiet regionRefusal ifAdmitted regionEntry spanned eq printed textOf flatMap readingOf pitchesOf filter keep means levels flatFirst flatLast isExtremum localExtrema someFrame firstFrame firstBest extremumMiddle furthest shallow defaults tenthOf regionIn attach grouped voicedFrames voicedRuns longRuns nearest runOf separate breaksFrom syllablesOf syllableRuns gaps dropoutsOf dropouts breaksIn member inOrder framesIn neighbours beside repairedAmong repaired tabulate estimates startOf cutFrom recoveredFrom recovered octaveIn pushBy mergeBy merged pitchNear speechByLevel voicedPeak ontoRun peaksOnto voicedPeaks runsHeld unheldFrom unheld hasTop standsAlone topOf onFlank topsOf candidates oneNucleus louder nucleusFrames nucleiOver nucleiOf unpitched unpitchedPeaks change maySplit splitOf oneSyllable survivor anchors heldBy secondIn seconds edgesBetween sides extraFrames extraEdges extrasOf edgesOf extraCandidates clear tryAdd addAll joint joints jointsInside between pauseEdges allFrom creaks inCreak voicingEdges inLongSpan minima chosen boundariesIn dbAdmitted pitchAdmitted settingsAdmitted allOf refuse chainRefusal halfAt wordAt agrees refusalOf records takeIn readTake glyph hexDigits decimalIn markLines pitchLines regionLine listing stepIn cross power nsdf window narrow add sub mul div round ofInt toUnsigned toBits ofBits lt le ne
+unfolding known chainOf overlay regionRefusal ifAdmitted spanned eq printed textOf flatMap readingOf pitchesOf filter keep means levels flatFirst flatLast isExtremum localExtrema someFrame allFrames firstFrame firstBest extremumMiddle furthest shallow defaults tenthOf regionIn attach grouped voicedFrames voicedRuns longRuns nearest runOf separate breaksFrom syllablesOf syllableRuns gaps dropoutsOf dropouts breaksIn member inOrder framesIn neighbours beside repairedAmong repaired tabulate estimates startOf recoveredFrom recoveredBy octaveIn pushBy mergeBy merged pitchNear speechByLevel voicedPeak ontoRun peaksOnto voicedPeaks runsHeld unheldFrom unheld hasTop standsAlone topOf onFlank topsOf candidates oneNucleus louder nucleusFrames nucleiOver nucleiOf unpitched unpitchedPeaks change maySplit splitOf oneSyllable survivor anchors heldBy secondIn seconds edgesBetween sides extraFrames extraEdges extrasOf edgesOf extraCandidates clear tryAdd addAll joint joints jointsInside between pauseEdges creaks inCreak voicingEdges inLongSpan minima chosen boundariesIn dbAdmitted pitchAdmitted allOf firstOf passes firstFailed tested refusal chainRefusal halfAt wordAt agrees refusalOf records takeIn readTake glyph hexDigits decimalIn markLines pitchLines regionLine listing stepIn cross power nsdf window narrow add sub mul div round ofInt toUnsigned toBits ofBits lt le ne
 known-right = (refl, (refl, (refl, (refl, (refl, (refl, (refl, (refl, (refl, (refl, ((refl, refl), (refl, (refl, (refl, (refl, (refl, (refl, (refl, (refl, (refl, (refl, (refl, (refl, (refl, tt))))))))))))))))))))))))

@@ -1,24 +1,25 @@
--- The known takes and pitches of document 01, K1 to K8, and some more beside a limit, as rows of one table. Definitions only.
+-- The known takes and pitches of the specification, K1 to K8, and some more beside a limit, as rows of one table. Definitions only.
 use Prim.Native.Nat.{ℕ, zero, suc}
 use mathlib.Core.Path.{_≡_}
-use mathlib.Core.Bool.{true, false}
+use mathlib.Core.Bool.{Bool, true, false, _&&_}
 use mathlib.Core.List.{List, [], _∷_, _++_, map, flatMap}
 use lib.IntN.{ℤ, pos}
 use lib.ListN.{length, replicate}
-use lib.Ieee.{Float, binary32, binary64, round, neg, ofInt}
+use lib.Dec.{eqb}
+use lib.Ieee.{Float, binary32, binary64, round, neg, ofInt, toBits}
 use Rattle.region.specs.Defaults.{defaults}
 use Rattle.nsdf.specs.Nsdf.{nsdf, window}
-use Rattle.nsdf.specs.Period.{near}
+use Rattle.floats.specs.Ratio.{ratio}
 use Rattle.nsdf.specs.declared.period.Estimate.{Estimate}
 use Rattle.nsdf.specs.declared.period.Estimate.the-variants.{Nothing, Hz}
 use Rattle.repair.specs.Repair.{repaired}
 use Rattle.recover.specs.Recovered.{recoveredFrom}
 use Rattle.nuclei.specs.Nuclei.{framesOf}
 use Rattle.extra.specs.Extra.{extrasOf, edgesOf}
-use Rattle.admit.specs.Refusals.{regionRefusal}
-use Rattle.entries.specs.Stages.{regionEntry, spanned}
+use Rattle.admit.specs.Values.{number}
+use Rattle.entries.specs.Stages.{RegionCall}
 use Rattle.entries.specs.declared.stages.Spanned.{Spanned}
-use Rattle.kiddwyr.specs.Chain.{Take, Lists, Left, chainOf}
+use Rattle.chain.specs.Chain.{Take, Lists, Left, chainOf}
 use Rattle.report.specs.Shown.{printed}
 
 -- a row: a take file and the whole output; a take, the lent lists, and all that the chain answers and leaves; a pitch track as given and as
@@ -34,13 +35,16 @@ pub data Row : Type 0 where
   splits : List Float → List Float → List Float → ℕ → List ℕ → List ℕ → Row
   spans : List Float → Spanned → Row
 
--- a whole number as an f32
-abbrev f32 : ℕ → Float
-f32 n = ofInt binary32 (pos n)
-
 -- a pitch track
 abbrev track : List ℕ → List Float
-track = map f32
+track = map number
+
+-- two tracks have the same bits
+abbrev sameBits : List Float → List Float → Bool
+sameBits [] [] = true
+sameBits [] (y ∷ ys) = false
+sameBits (x ∷ xs) [] = false
+sameBits (x ∷ xs) (y ∷ ys) = eqb (toBits binary32 x) (toBits binary32 y) && sameBits xs ys
 
 -- an estimate
 abbrev estimate : ℕ → Estimate
@@ -51,12 +55,12 @@ estimate (suc n) = Hz (ofInt binary64 (pos (suc n)))
 abbrev pub Right : Row → Type 0
 Right (prints file text) = printed file (length file) ≡ text
 Right (marks take lent left) = chainOf take lent ≡ left
-Right (repairs given after) = repaired (track given) ≡ track after
+Right (repairs given after) = sameBits (repaired (track given)) (track after) ≡ true
 Right (recovers given found after) = recoveredFrom (track given) (map estimate found) ≡ track after
 Right (repeats samples centre lags values) = map (nsdf (window samples centre)) lags ≡ values
 Right (splits db pitch sonority nucleus edges extras) =
     (edgesOf db pitch sonority 0 (length db) (nucleus ∷ []) defaults ≡ edges) × (framesOf (extrasOf db pitch sonority 0 (length db) (nucleus ∷ []) defaults) ≡ extras)
-Right (spans db answer) = spanned (regionRefusal db defaults) (regionEntry db defaults) ≡ answer
+Right (spans db answer) = RegionCall db defaults answer
 
 -- ---- K1, byte by byte
 -- the bits of f32: 0, 0.75, 1, 2, 10, 200, -20 and -60
@@ -109,13 +113,13 @@ k1Text =
 -- ---- K2, K3
 -- 0 but for a at 6 to 13 and b at 17 to 25 of 32 frames
 abbrev apart : ℕ → ℕ → List Float
-apart a b = replicate 6 (f32 0) ++ replicate 8 (f32 a) ++ replicate 3 (f32 0) ++ replicate 9 (f32 b) ++ replicate 6 (f32 0)
+apart a b = replicate 6 (number 0) ++ replicate 8 (number a) ++ replicate 3 (number 0) ++ replicate 9 (number b) ++ replicate 6 (number 0)
 
 -- dB -20 at 4 to 27, 200 Hz and then the second pitch
 abbrev pub steppedTo : ℕ → Take
 steppedTo hz =
     record {
-      db = replicate 4 (neg (f32 60)) ++ replicate 24 (neg (f32 20)) ++ replicate 4 (neg (f32 60));
+      db = replicate 4 (neg (number 60)) ++ replicate 24 (neg (number 20)) ++ replicate 4 (neg (number 60));
       pitch = apart 200 hz;
       voiced = apart 1 1;
       sonority = replicate 32 (round binary32 false 3 4);
@@ -129,9 +133,9 @@ abbrev pub lent : Lists
 lent =
     record {
       frames = replicate 32 99;
-      strengths = replicate 32 (f32 99);
+      strengths = replicate 32 (number 99);
       xframes = replicate 32 99;
-      xstrengths = replicate 32 (f32 99);
+      xstrengths = replicate 32 (number 99);
       edges = replicate 32 99;
       bounds = replicate 33 99;
     }
@@ -145,9 +149,9 @@ k2 =
       lists =
           record {
             frames = 13 ∷ 21 ∷ replicate 30 99;
-            strengths = f32 40 ∷ f32 40 ∷ replicate 30 (f32 99);
+            strengths = number 40 ∷ number 40 ∷ replicate 30 (number 99);
             xframes = replicate 32 99;
-            xstrengths = replicate 32 (f32 99);
+            xstrengths = replicate 32 (number 99);
             edges = replicate 32 99;
             bounds = 4 ∷ 14 ∷ 17 ∷ 28 ∷ replicate 29 99;
           };
@@ -162,9 +166,9 @@ k3 =
       lists =
           record {
             frames = 13 ∷ replicate 31 99;
-            strengths = f32 40 ∷ replicate 31 (f32 99);
+            strengths = number 40 ∷ replicate 31 (number 99);
             xframes = replicate 32 99;
-            xstrengths = replicate 32 (f32 99);
+            xstrengths = replicate 32 (number 99);
             edges = replicate 32 99;
             bounds = 4 ∷ 28 ∷ replicate 31 99;
           };
@@ -172,14 +176,14 @@ k3 =
 
 -- ---- K8: 40 frames of -20 dB, the run 10 to 29
 abbrev voice : List Float
-voice = replicate 10 (f32 0) ++ replicate 20 (f32 200) ++ replicate 10 (f32 0)
+voice = replicate 10 (number 0) ++ replicate 20 (number 200) ++ replicate 10 (number 0)
 
 abbrev fall : List Float
 fall = replicate 21 (round binary32 false 3 4) ++ (round binary32 false 1 2) ∷ replicate 18 (round binary32 false 1 4)
 
 -- ---- beside a limit: 10 frames of -60 dB, then n of -20
 abbrev burst : ℕ → List Float
-burst n = replicate 10 (neg (f32 60)) ++ replicate n (neg (f32 20))
+burst n = replicate 10 (neg (number 60)) ++ replicate n (neg (number 20))
 
 -- ---- the rows
 unfoldable pub known : List Row
@@ -199,15 +203,15 @@ known =
     ∷ recovers (0 ∷ 0 ∷ 0 ∷ []) (200 ∷ 218 ∷ 218 ∷ []) (200 ∷ 218 ∷ 218 ∷ [])
     ∷ recovers (0 ∷ 0 ∷ 0 ∷ []) (200 ∷ 219 ∷ 219 ∷ []) (0 ∷ 0 ∷ 0 ∷ [])
     -- K7
-    ∷ repeats (pos 1 ∷ pos 2 ∷ pos 1 ∷ pos 2 ∷ []) 0 (1 ∷ 2 ∷ 3 ∷ 4 ∷ []) (near 8 10 ∷ near 1 1 ∷ near 8 10 ∷ near 0 1 ∷ [])
+    ∷ repeats (pos 1 ∷ pos 2 ∷ pos 1 ∷ pos 2 ∷ []) 0 (1 ∷ 2 ∷ 3 ∷ 4 ∷ []) (ratio binary64 (pos 8) 10 ∷ ratio binary64 (pos 1) 1 ∷ ratio binary64 (pos 8) 10 ∷ ratio binary64 (pos 0) 1 ∷ [])
     -- K8
-    ∷ splits (replicate 40 (neg (f32 20))) voice fall 15 (22 ∷ []) (25 ∷ [])
+    ∷ splits (replicate 40 (neg (number 20))) voice fall 15 (22 ∷ []) (25 ∷ [])
     -- 4 speech frames, and 5
     ∷ spans (burst 4) (record { refusal = 0; found = false; start = 0; end = 0 })
     ∷ spans (burst 5) (record { refusal = 0; found = true; start = 10; end = 15 })
     -- dB 1,000, and 1,001
-    ∷ spans (f32 1000 ∷ []) (record { refusal = 0; found = false; start = 0; end = 0 })
-    ∷ spans (f32 1001 ∷ []) (record { refusal = 4; found = false; start = 0; end = 0 })
+    ∷ spans (number 1000 ∷ []) (record { refusal = 0; found = false; start = 0; end = 0 })
+    ∷ spans (number 1001 ∷ []) (record { refusal = 4; found = false; start = 0; end = 0 })
     -- in the repair, frames with no pitch are passed over, up to 2 in a row; a fifth voiced frame 4 frames on is in another run
     ∷ repairs (118 ∷ 0 ∷ 118 ∷ 200 ∷ 118 ∷ 0 ∷ 0 ∷ 118 ∷ []) (118 ∷ 0 ∷ 118 ∷ 100 ∷ 118 ∷ 0 ∷ 0 ∷ 118 ∷ [])
     ∷ repairs (118 ∷ 118 ∷ 200 ∷ 118 ∷ 0 ∷ 0 ∷ 0 ∷ 118 ∷ []) (118 ∷ 118 ∷ 200 ∷ 118 ∷ 0 ∷ 0 ∷ 0 ∷ 118 ∷ [])

@@ -14,6 +14,14 @@ module _ {A : Type 0} where
   each-map P Q f [] h = tt
   each-map P Q f (x ∷ l) h = (f x (h .0), each-map P Q f l (h .1))
 
+  pub each-all : (P : A → Type 0) → ((x : A) → P x) → (l : List A) → Each P l
+  each-all P f [] = tt
+  each-all P f (x ∷ l) = (f x, each-all P f l)
+
+  pub each-both : (P Q R : A → Type 0) → ((x : A) → P x → Q x → R x) → (l : List A) → Each P l → Each Q l → Each R l
+  each-both P Q R f [] p q = tt
+  each-both P Q R f (x ∷ l) p q = (f x (p .0) (q .0), each-both P Q R f l (p .1) (q .1))
+
   pub each-append : (P : A → Type 0) (l r : List A) → Each P l → Each P r → Each P (l ++ r)
   each-append P [] r h g = g
   each-append P (x ∷ l) r h g = (h .0, each-append P l r (h .1) g)

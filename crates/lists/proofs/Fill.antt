@@ -1,13 +1,16 @@
 -- A lent list that is filled from the front, one store at a time: `Filling whole rest out₀ out n` says that of the result `whole` the first n entries are in
 -- `out`, that `rest` is to come, and that past them `out` is as it was lent. Then what a caller reads off the list that comes back. Assumes nothing.
 use Prim.Native.Nat.{ℕ, zero, suc, _+_, _-_, _<_, _≤_}
+use native.Mathlib.Nat.{add-zero, zero-add, suc-add}
 use native.Mathlib.Omega.{arith}
 use native.Mathlib.Numerals.{add-one}
-use mathlib.Core.Path.{_≡_, refl, sym, ap, ap₂, _∙_}
-use mathlib.Core.Bool.{Bool, true, false, _&&_}
+use mathlib.Core.Path.{_≡_, refl, sym, ap, ap₂, subst, _∙_}
+use mathlib.Core.Bool.{Bool, true, false}
 use mathlib.Core.List.{List, [], _∷_, _++_, append-assoc, append-nil, map}
-use lib.ListN.{length, getD, take, drop, set, length-append, length-drop, length-set, drop-of-length-le}
-use lib.Seq.{drop-cons, set-at, take-append-seam, take-suc-set}
+use lib.Dec.{leb}
+use borrow.Author.Tests.{leb-true, leb-false}
+use lib.ListN.{length, getD, take, drop, set, length-append, length-drop, drop-of-length-le}
+use lib.Seq.{drop-cons, set-at, take-append-seam}
 use Rattle.lists.specs.Results.{overlay, Listed, Front, Pushed, keep, consIf, filter, setIf, moreIf}
 
 pub record Filling {ℓ} {A : Type ℓ} (whole rest out₀ out : List A) (n : ℕ) : Type ℓ where
@@ -92,24 +95,20 @@ module _ {ℓ} {A : Type ℓ} {res old new : List A} {r : ℕ} (l : Listed res o
   unfolding overlay
   listed-all h = l .entries ∙ ap (λ (z : List A). res ++ z) (drop-of-length-le old h) ∙ append-nil res
 
--- one more entry at the end of a front
-pub front-push {ℓ} : {A : Type ℓ} (l : List A) (k : ℕ) (x : A) → k < length l → Front (take k l ++ (x ∷ [])) (set l k x) (k + 1)
-front-push l k x h = record { within = rw length-set (omega arith); entries = rw add-one (take-suc-set l k x h) }
+pub overlay-take : {A : Type 0} (res old : List A) {r : ℕ} → r ≡ length res → take r (overlay res old) ≡ res
+overlay-take res old e = listed-take (record { count = e; entries = refl })
 
--- no result leaves the list as it was
-pub listed-none {ℓ} : {A : Type ℓ} {old new : List A} {r : ℕ} → Listed [] old new r → (new ≡ old) × (r ≡ 0)
-unfolding overlay
-listed-none l = (l .entries, l .count)
+pub relisted : {A : Type 0} {res other old new : List A} {r : ℕ} → res ≡ other → Listed res old new r → Listed other old new r
+relisted {A} {res} {other} {old} {new} {r} e l = subst (λ (z : List A). Listed z old new r) e l
 
 -- ---- the entries of a list that pass
 pub map-consIf {ℓ κ} : {A : Type ℓ} {B : Type κ} (g : A → B) (b : Bool) (x : A) (xs : List A) → map g (consIf b x xs) ≡ consIf b (g x) (map g xs)
 map-consIf g true x xs = refl
 map-consIf g false x xs = refl
 
-pub filter-consIf {ℓ} : {A : Type ℓ} (p : A → Bool) (b : Bool) (x : A) (xs : List A) → filter p (consIf b x xs) ≡ consIf (b && p x) x (filter p xs)
-unfolding filter
-filter-consIf p true x xs = refl
-filter-consIf p false x xs = refl
+consIf-append : {A : Type 0} (b : Bool) (x : A) (l r : List A) → consIf b x (l ++ r) ≡ consIf b x l ++ r
+consIf-append true x l r = refl
+consIf-append false x l r = refl
 
 pub length-consIf {ℓ} : {A : Type ℓ} (b : Bool) (x : A) (xs : List A) {k : ℕ} → length xs ≤ k → length (consIf b x xs) ≤ suc k
 length-consIf true x xs h = omega arith
@@ -119,6 +118,11 @@ pub filter-le {ℓ} : {A : Type ℓ} (p : A → Bool) (xs : List A) → length (
 unfolding filter
 filter-le p [] = omega arith
 filter-le p (x ∷ xs) = length-consIf (p x) x (filter p xs) (filter-le p xs)
+
+pub filter-append : {A : Type 0} (p : A → Bool) (xs ys : List A) → filter p (xs ++ ys) ≡ filter p xs ++ filter p ys
+unfolding filter
+filter-append p [] ys = refl
+filter-append p (x ∷ xs) ys = ap (consIf (p x) x) (filter-append p xs ys) ∙ consIf-append (p x) x (filter p xs) (filter p ys)
 
 -- the next entry, at the code's i + 1
 pub drop-step {ℓ} : {A : Type ℓ} (l : List A) (i : ℕ) (d : A) → i < length l → drop i l ≡ getD l i d ∷ drop (i + 1) l
@@ -172,6 +176,30 @@ pub keep-fits : (t : ℕ → Bool) (i k : ℕ) → length (keep t i k) ≤ k
 unfolding keep
 keep-fits t i zero = omega arith
 keep-fits t i (suc k) = length-consIf (t i) i (keep t (suc i) k) (keep-fits t (suc i) k)
+
+-- those of a + b frames are those of the first a and those of the b after them
+pub keep-split : (t : ℕ → Bool) (i a b : ℕ) → keep t i (a + b) ≡ keep t i a ++ keep t (i + a) b
+unfolding keep
+keep-split t i zero b = ap₂ (keep t) (sym (add-zero i)) (zero-add b)
+keep-split t i (suc a) b =
+    let e : suc i + a ≡ i + suc a = omega arith in
+    ap (keep t i) (suc-add a b) ∙ ap (consIf (t i) i) (keep-split t (suc i) a b ∙ ap (λ (j : ℕ). keep t (suc i) a ++ keep t j b) e) ∙ consIf-append (t i) i (keep t (suc i) a) (keep t (i + suc a) b)
+
+-- frames that do not pass may be left out
+pub keep-pass : (t : ℕ → Bool) (i d n : ℕ) → ((j : ℕ) → i ≤ j → j < i + d → t j ≡ false) → keep t i (n - i) ≡ keep t (i + d) (n - (i + d))
+keep-pass t i zero n f = rw add-zero
+keep-pass t i (suc d) n f = go (leb n i) refl (keep-pass t (i + 1) d n (λ j a b. f j (omega arith) (omega arith)))
+  where
+    e : i + 1 + d ≡ i + suc d
+    e = omega arith
+
+    go : (b : Bool) → leb n i ≡ b → keep t (i + 1) (n - (i + 1)) ≡ keep t (i + 1 + d) (n - (i + 1 + d)) → keep t i (n - i) ≡ keep t (i + suc d) (n - (i + suc d))
+    go true q on =
+        let h : n ≤ i = leb-true n i q in
+        keep-over t i n h ∙ sym (keep-over t (i + suc d) n (omega arith))
+    go false q on =
+        let h : i < n = leb-false n i q in
+        keep-step t i n h ∙ ap (λ (b : Bool). consIf b i (keep t (i + 1) (n - (i + 1)))) (f i (omega arith) (omega arith)) ∙ on ∙ ap (λ (x : ℕ). keep t x (n - x)) e
 
 module _ (t : ℕ → Bool) (len i : ℕ) (h : i < len) where
   pub keep-yes : {whole out₀ out : List ℕ} {n : ℕ} → t i ≡ true → Filling whole (keep t i (len - i)) out₀ out n → Filling whole (i ∷ keep t (i + 1) (len - (i + 1))) out₀ out n

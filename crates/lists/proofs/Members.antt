@@ -10,14 +10,14 @@ use mathlib.Core.List.{List, [], _∷_, _++_, reverse, reverse-cons}
 use mathlib.Core.Logic.{⊎-elim}
 use lib.ListN.{length, getD, drop, drop-of-length-le}
 use lib.Dec.{leb, ltb, eqb}
-use borrow.Author.Tests.{leb-true, le-leb, ltb-true, lt-ltb, eqb-true, eqb-false, eq-eqb, ne-eqb}
+use borrow.Author.Tests.{leb-true, le-leb, ltb-true, lt-ltb, eqb-true, eqb-false, eq-eqb}
 use Rattle.lists.specs.Results.{consIf, moreIf, filter, keep}
 use Rattle.lists.specs.By.{Each}
 use Rattle.lists.specs.Sorted.{count, Rises, StrictlyRises, IsSorted}
 use Rattle.lists.specs.Marks.{member, inOrder, IsInOrder, Once}
 use Rattle.lists.proofs.Tests.{or-cases, or-left, or-right, and-cases, and-both, not-holds, test-iff}
-use Rattle.lists.proofs.Fill.{drop-step, keep-fits}
-use Rattle.lists.proofs.Entries.{each-map}
+use Rattle.lists.proofs.Fill.{keep-fits}
+use Rattle.lists.proofs.Entries.{each-map, each-at}
 
 -- ---- members
 pub member-first : (x : ℕ) (xs : List ℕ) → member (x ∷ xs) x ≡ true
@@ -48,19 +48,10 @@ member-filter p (y ∷ xs) x = go (p y) (eqb y x) refl refl (member-filter p xs 
     go false true q e r = r ∙ rw (← eqb-true y x e, q)
     go false false q e r = r
 
--- a search through a list
-module _ (xs : List ℕ) (x i : ℕ) where
-  pub member-here : i < length xs → getD xs i 0 ≡ x → member (drop i xs) x ≡ true
-  unfolding member
-  member-here h e = rw (drop-step xs i 0 h, eq-eqb (getD xs i 0) x e)
-
-  pub member-on : i < length xs → (getD xs i 0 ≡ x → ⊥) → member (drop i xs) x ≡ member (drop (i + 1) xs) x
-  unfolding member
-  member-on h e = rw (drop-step xs i 0 h, ne-eqb (getD xs i 0) x e)
-
-  pub member-over : length xs ≤ i → member (drop i xs) x ≡ false
-  unfolding member
-  member-over h = rw (drop-of-length-le xs h)
+-- nothing is left to look through
+pub member-over : (xs : List ℕ) (x i : ℕ) → length xs ≤ i → member (drop i xs) x ≡ false
+unfolding member
+member-over xs x i h = rw (drop-of-length-le xs h)
 
 -- of the k frames from i on, those that pass
 kept-where : (t : ℕ → Bool) (i k x : ℕ) → member (keep t i k) x ≡ true → (i ≤ x) × (x < i + k) × (t x ≡ true)
@@ -108,19 +99,6 @@ pub each-keep : (t : ℕ → Bool) (i k : ℕ) → Each (λ x. (i ≤ x) × (x <
 each-keep t i k = member-each (λ x. (i ≤ x) × (x < i + k) × (t x ≡ true)) (keep t i k) (kept-where t i k)
 
 -- ---- members and counts
-pub member-count : (xs : List ℕ) (x : ℕ) → member xs x ≡ ltb 0 (count x xs)
-unfolding member
-member-count [] x = refl
-member-count (y ∷ xs) x = go (eqb y x) (member-count xs x)
-  where
-    go : (b : Bool) → member xs x ≡ ltb 0 (count x xs) → (b || member xs x) ≡ ltb 0 (moreIf b (count x xs))
-    go true e = sym (lt-ltb 0 (count x xs + 1) (omega arith))
-    go false e = e
-
--- a sorted list has the same members
-pub member-sorted : {l r : List ℕ} → IsSorted l r → (x : ℕ) → member r x ≡ member l x
-member-sorted {l} {r} s x = member-count r x ∙ ap (ltb 0) (s .same x) ∙ sym (member-count l x)
-
 count-once : (xs : List ℕ) → Once xs → (x : ℕ) → count x xs ≡ cond (member xs x) 1 0
 unfolding member
 count-once [] o x = refl
@@ -135,9 +113,28 @@ pub strict-from : (lo lo' hi : ℕ) (xs : List ℕ) → lo ≤ lo' → StrictlyR
 strict-from lo lo' hi [] h s = tt
 strict-from lo lo' hi (x ∷ xs) h s = (omega (arith, s .0), s .1, s .2)
 
+pub strict-to : (lo hi hi' : ℕ) (xs : List ℕ) → hi ≤ hi' → StrictlyRises lo hi xs → StrictlyRises lo hi' xs
+strict-to lo hi hi' [] h s = tt
+strict-to lo hi hi' (x ∷ xs) h s = (s .0, omega (arith, s .1), strict-to (x + 1) hi hi' xs h (s .2))
+
+-- between closer bounds, where each entry lies there
+pub strict-between : (a n lo hi : ℕ) (xs : List ℕ) → StrictlyRises a n xs → Each (λ x. (lo ≤ x) × (x < hi)) xs → StrictlyRises lo hi xs
+strict-between a n lo hi [] s e = tt
+strict-between a n lo hi (x ∷ xs) s e = (e .0 .0, e .0 .1, below (x + 1) xs (s .2) (e .1))
+  where
+    below : (c : ℕ) (ys : List ℕ) → StrictlyRises c n ys → Each (λ y. (lo ≤ y) × (y < hi)) ys → StrictlyRises c hi ys
+    below c [] t f = tt
+    below c (y ∷ ys) t f = (t .0, f .0 .1, below (y + 1) ys (t .2) (f .1))
+
 pub strict-each : (lo hi : ℕ) (xs : List ℕ) → StrictlyRises lo hi xs → Each (λ x. (lo ≤ x) × (x < hi)) xs
 strict-each lo hi [] s = tt
 strict-each lo hi (x ∷ xs) s = ((s .0, s .1), strict-each lo hi xs (strict-from lo (x + 1) hi xs (omega (arith, s .0)) (s .2)))
+
+pub strict-below : (lo hi : ℕ) (xs : List ℕ) → StrictlyRises lo hi xs → Each (λ x. x < hi) xs
+strict-below lo hi xs s = each-map (λ x. (lo ≤ x) × (x < hi)) (λ x. x < hi) (λ x h. h .1) xs (strict-each lo hi xs s)
+
+pub strict-get : (lo hi : ℕ) (xs : List ℕ) (i : ℕ) → i < length xs → StrictlyRises lo hi xs → getD xs i 0 < hi
+strict-get lo hi xs i h s = each-at (λ x. x < hi) xs 0 (strict-below lo hi xs s) i h
 
 pub strict-rises : (lo hi : ℕ) (xs : List ℕ) → StrictlyRises lo hi xs → Rises xs
 strict-rises lo hi [] s = tt
@@ -191,14 +188,8 @@ rest x xs y h = ap (λ (b : Bool). b || member xs y) (not-holds (eqb x y) (λ e.
 
 pub strict-unique : (lo hi : ℕ) (r s : List ℕ) → StrictlyRises lo hi r → StrictlyRises lo hi s → ((x : ℕ) → member r x ≡ member s x) → r ≡ s
 strict-unique lo hi [] [] a b e = refl
-strict-unique lo hi [] (y ∷ s) a b e = absurd (none y (e y ∙ member-first y s))
-  where
-    none : (x : ℕ) → member [] x ≡ true → ⊥
-    none x q = each-member (λ z. ⊥) [] x tt q
-strict-unique lo hi (x ∷ r) [] a b e = absurd (none x (sym (e x) ∙ member-first x r))
-  where
-    none : (x : ℕ) → member [] x ≡ true → ⊥
-    none x q = each-member (λ z. ⊥) [] x tt q
+strict-unique lo hi [] (y ∷ s) a b e = absurd (each-member (λ z. ⊥) [] y tt (e y ∙ member-first y s))
+strict-unique lo hi (x ∷ r) [] a b e = absurd (each-member (λ z. ⊥) [] x tt (sym (e x) ∙ member-first x r))
 strict-unique lo hi (x ∷ r) (y ∷ s) a b e =
     let p : x ≡ y = le-antisymm (least lo hi x r y a (e y ∙ member-first y s)) (least lo hi y s x b (sym (e x) ∙ member-first x r)) in
     ap (λ (z : ℕ). z ∷ r) p

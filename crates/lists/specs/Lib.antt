@@ -1,3 +1,4 @@
+pub mod Frames
 pub mod Results
 pub mod By
 pub mod Sorted
@@ -5,3 +6,4 @@ pub mod Merge
 pub mod Marks
 pub mod Stack
 pub mod Candidates
+pub mod Grouped

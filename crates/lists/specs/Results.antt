@@ -1,5 +1,5 @@
--- A result that is written to a lent list, and the results that are made of what passes a test. Definitions only.
-use Prim.Native.Nat.{ℕ, zero, suc, _+_, _≤_}
+-- The results that are made of what passes a test (`filter`, `keep`); and scaffolding of the code's loops: how a result is written to a lent list. Definitions only.
+use Prim.Native.Nat.{ℕ, zero, suc, _+_, _-_, _≤_}
 use mathlib.Core.Path.{_≡_}
 use mathlib.Core.Bool.{Bool, true, false}
 use mathlib.Core.List.{List, [], _∷_, _++_}
@@ -48,3 +48,7 @@ pub record Pushed {ℓ} {A : Type ℓ} (b : Bool) (x : A) (n : ℕ) (old new : L
 unfoldable pub keep : (ℕ → Bool) → ℕ → ℕ → List ℕ
 keep t i zero = []
 keep t i (suc k) = consIf (t i) i (keep t (suc i) k)
+
+-- a list with another's entries in the places from a on and before b
+unfoldable pub replaced {ℓ} : {A : Type ℓ} → ℕ → ℕ → List A → List A → List A
+replaced a b new old = take a old ++ take (b - a) (drop a new) ++ drop b old

@@ -1,4 +1,4 @@
--- The front of a list as a stack, the last entry first. Definitions only.
+-- Scaffolding of the code's loops: the front of a list as a stack, the last entry first. Definitions only.
 use Prim.Native.Nat.{ℕ, zero, suc, _≤_, _<_}
 use mathlib.Core.Path.{_≡_}
 use mathlib.Core.List.{List, [], _∷_}

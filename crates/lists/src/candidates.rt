@@ -1,9 +1,5 @@
 // Candidates as whole numbers, whose rising order takes the heavier first and the earlier frame where they weigh the same.
 ghost use mathlib.Core.Path.{_≡_};
-ghost use mathlib.Core.List.{map};
-ghost use Prim.Native.Nat.{_≤_};
-ghost use lib.ListN.{length};
-ghost use Rattle.lists.specs.Results.{Listed};
 ghost use Rattle.lists.specs.Candidates.{keyOf, frameIn};
 
 // The key of a frame with its weight. A NaN weighs more than all others, and -0.0 less than +0.0.
@@ -19,17 +15,4 @@ pub fn frame_of(key: u64) -> u32
     ensures { λ r. ⌜ r ≡ frameIn key ⌝ }
 {
     (key % 0x1_0000_0000) as u32
-}
-
-// Writes the frames in keys, in the keys' order, and returns how many they are.
-pub fn put_frames(keys: &[u64], out: &mut [u32]) -> usize
-    requires { ⌜ length (now keys) ≤ length (now out) ⌝ }
-    ensures { λ r. ⌜ Listed (map frameIn (now (keys .entry))) (now (out .entry)) (now (out .exit)) r ⌝ }
-{
-    let mut i: usize = 0;
-    while i < keys.len() {
-        out[i] = frame_of(keys[i]);
-        i += 1;
-    }
-    i
 }

@@ -3,14 +3,14 @@ ghost use Prim.Native.Nat.{_≤_};
 ghost use lib.ListN.{length};
 ghost use Rattle.lists.specs.Results.{Listed};
 
-// Writes a list to the front of a lent one, whose entries past it stay, and returns how many they are.
-pub fn put(xs: &[u32], out: &mut [u32]) -> usize
-    requires { ⌜ length (now xs) ≤ length (now out) ⌝ }
-    ensures { λ r. ⌜ Listed (now (xs .entry)) (now (out .entry)) (now (out .exit)) r ⌝ }
+// Copies a track to the front of another, and returns how many frames it has.
+pub fn copy(track: &[f32], out: &mut [f32]) -> usize
+    requires { ⌜ length (now track) ≤ length (now out) ⌝ }
+    ensures { λ r. ⌜ Listed (now (track .entry)) (now (out .entry)) (now (out .exit)) r ⌝ }
 {
     let mut i: usize = 0;
-    while i < xs.len() {
-        out[i] = xs[i];
+    while i < track.len() {
+        out[i] = track[i];
         i += 1;
     }
     i

@@ -1,9 +1,9 @@
-// Reads a take file on standard input and prints the listing of its marks. An input that cannot be read, or a listing
-// that cannot be written, is told on standard error.
+// Reads a take file on standard input and prints the listing of its marks; with the word `--version` it tells its own. An
+// input that cannot be read, or a listing that cannot be written, is told on standard error.
 use input::Input;
 use libc::STDERR_FILENO;
 use libc::STDOUT_FILENO;
-use report::least;
+use lists::sizes::smaller;
 ghost use mathlib.Core.Path.{_≡_};
 ghost use mathlib.Core.List.{List};
 ghost use Prim.Native.Nat.{ℕ, _≤_};
@@ -49,9 +49,10 @@ fn read_file(file: &mut [u8]) -> Input
 fn tell(file: &[u8], total: usize, page: &mut [u8]) -> usize
     requires { ⌜ largest ≤ length (now file) ⌝ }
     requires { ⌜ largestListing ≤ length (now page) ⌝ }
-    ensures { λ r. ⌜ ((came : List ℕ) → Holds came (now (file .entry)) total → Listed (textFor came) (now (page .entry)) (now (page .exit)) r) ⌝ }
+    ensures { λ r. ⌜ ((came : List ℕ) → Holds came (now (file .entry)) total
+        → Listed (textFor came) (now (page .entry)) (now (page .exit)) r) ⌝ }
 {
-    let held = least(total, file.len());
+    let held = smaller(total, file.len());
     report::marks_of(&file[..held], total, page)
 }
 
@@ -68,7 +69,8 @@ fn answer(page: &mut [u8]) -> Outcome
     }
 }
 
-fn main() {
+// Reads the input and prints what is to be printed for it.
+fn mark_input() {
     let mut page = blank_page();
     match answer(&mut page) {
         Outcome::Unread => {
@@ -81,4 +83,21 @@ fn main() {
             io::write_all(STDERR_FILENO, b"marks: the listing could not be written\n");
         }
     }
+}
+
+// Whether the first argument is the word `--version`. One that is longer has the length 0 here.
+fn asks_for_version() -> bool {
+    let mut w = [0u8; 9];
+    let n = os::arg(1, &mut w);
+    let dashes = w[0] == b'-' && w[1] == b'-';
+    let vers = w[2] == b'v' && w[3] == b'e' && w[4] == b'r' && w[5] == b's';
+    n == 9 && dashes && vers && w[6] == b'i' && w[7] == b'o' && w[8] == b'n'
+}
+
+fn main() {
+    if asks_for_version() {
+        io::write_all(STDOUT_FILENO, b"kiddwyr 4.0.0\n");
+        return;
+    }
+    mark_input();
 }

@@ -1,5 +1,4 @@
--- Every periodicity is a number from -1 to 1, and 0 where there is no pair or no energy; what a parabola through three of them
--- shifts a lag by is a number, and at most 1/2 when it is clamped. Assumes nothing.
+-- Every periodicity is a number from -1 to 1; what a parabola through three of them shifts a lag by is a number, and at most 1/2 when it is clamped. Assumes nothing.
 use mathlib.Core.Path.{_≡_, refl, sym}
 use Prim.Native.Nat.{ℕ, zero, suc, _*_, _≤_, zero-le, suc-le-suc}
 use native.Mathlib.Nat.{le-trans, le-of-eq, one-mul}
@@ -9,7 +8,7 @@ use mathlib.Core.List.{List}
 use borrow.Author.Tests.{ltb-false}
 use lib.Dec.{T, eqb·suc-zero, lit<, lit≤}
 use lib.IntN.{ℤ, pos, negsuc, natAbs, _*ℤ_}
-use lib.ListN.{length, drop}
+use lib.ListN.{drop}
 use lib.Ieee.{Float, nan, inf, fin, binary64, up, down, sub, mul, div, neg, lt, le, isNan}
 use lib.Ieee.Scale.{finite}
 use Rattle.floats.specs.Plain.{zeroF, half}
@@ -22,7 +21,7 @@ use Rattle.floats.proofs.Zeros.{below-not-zero}
 use Rattle.nsdf.specs.Nsdf.{cross, power, normalised, nsdf}
 use Rattle.nsdf.specs.Period.{bend, shift, clamped}
 use Rattle.nsdf.proofs.Whole.{abs-mul}
-use Rattle.nsdf.proofs.Summing.{cross-le, power-end}
+use Rattle.nsdf.proofs.Summing.{cross-le}
 
 -- ---- the periodicity
 
@@ -37,18 +36,8 @@ nsdf-within w lag = go (cross w (drop lag w)) (power w (drop lag w)) (cross-le w
         (round-within binary64 (negative (pos 2 *ℤ z)) (natAbs (pos 2 *ℤ z)) (suc e) 1 (suc-le-suc zero-le) (lit≤ tt)
         (le-trans (le-of-eq (abs-mul (pos 2) z)) (le-trans h (le-of-eq (sym (one-mul (suc e)))))))
 
-pub nsdf-number : (w : List ℤ) (lag : ℕ) → isNan (nsdf w lag) ≡ false
-nsdf-number w lag = finite-number (nsdf w lag) (within-finite (nsdf w lag) 1 (nsdf-within w lag))
-
 pub nsdf-range : (w : List ℤ) (lag : ℕ) → T (le (fin true 1 (pos 0)) (nsdf w lag)) × T (le (nsdf w lag) (fin false 1 (pos 0)))
 nsdf-range w lag = within-le (nsdf w lag) 1 (lit< tt) (nsdf-within w lag)
-
-pub nsdf-no-energy : (w : List ℤ) (lag : ℕ) → power w (drop lag w) ≡ 0 → nsdf w lag ≡ zeroF
-unfolding nsdf
-nsdf-no-energy w lag e = rw e
-
-pub nsdf-no-pair : (w : List ℤ) (lag : ℕ) → length w ≤ lag → nsdf w lag ≡ zeroF
-nsdf-no-pair w lag h = nsdf-no-energy w lag (power-end w w lag h)
 
 -- ---- the shift
 

@@ -1,65 +1,45 @@
 -- Walking over the measured lags, and over the peaks among them. Assumes nothing.
-use mathlib.Core.Path.{_≡_, refl, sym, ap, _∙_, subst}
+use mathlib.Core.Path.{_≡_, refl, sym, _∙_}
 use Prim.Native.Nat.{ℕ, zero, suc, _+_, _-_, _≤_, _<_}
-use native.Mathlib.Nat.{add-zero, add-suc, suc-add, le-of-suc-le-suc, not-suc-le-zero}
-use native.Mathlib.Numerals.{add-one}
+use native.Mathlib.Nat.{le-of-eq}
 use native.Mathlib.Omega.{arith}
 use mathlib.Core.Bool.{Bool, true, false}
-use mathlib.Core.List.{List, [], _∷_, _++_, map, foldl}
+use mathlib.Core.List.{List, map, foldl}
 use lib.IntN.{ℤ}
-use lib.ListN.{length, getD, take, set, length-set}
-use lib.Seq.{take-suc, take-suc-set, take-all}
+use lib.ListN.{length, drop, set}
 use lib.Ieee.{Float, nan, inf}
 use Rattle.lists.specs.Results.{keep, consIf}
-use Rattle.lists.proofs.Fill.{keep-step, keep-over}
+use Rattle.lists.proofs.Fill.{Filling, fill-start, fill-entry, fill-over, listed-all, keep-step, keep-over}
+use Rattle.lists.proofs.Tabulated.{length-tabulate, tabulate-at}
 use Rattle.nsdf.specs.declared.period.Peak.{Peak}
 use Rattle.nsdf.specs.declared.period.Peak.the-variants.{At, Missing}
 use Rattle.nsdf.specs.Nsdf.{nsdf}
-use Rattle.nsdf.specs.Period.{tabulate, larger, at, measured, isPeak, isNear, first, bestPeak, firstPeak}
+use Rattle.lists.specs.Frames.{at}
+use Rattle.nsdf.specs.Period.{larger, measured, isPeak, isNear, first, bestPeak, firstPeak}
 
 -- ---- the lags
 
-length-tabulate : (f : ℕ → Float) (a n : ℕ) → length (tabulate f a n) ≡ n
-unfolding tabulate
-length-tabulate f a zero = refl
-length-tabulate f a (suc n) = ap suc (length-tabulate f (suc a) n)
-
-tabulate-at : (f : ℕ → Float) (a n k : ℕ) → k < n → getD (tabulate f a n) k nan ≡ f (a + k)
-unfolding tabulate
-tabulate-at f a zero k h = absurd (not-suc-le-zero h)
-tabulate-at f a (suc n) zero h = rw add-zero
-tabulate-at f a (suc n) (suc k) h = tabulate-at f (suc a) n k (le-of-suc-le-suc h) ∙ ap f (suc-add a k ∙ sym (add-suc a k))
-
-pub tabulate-same : (f g : ℕ → Float) → ((k : ℕ) → f k ≡ g k) → (a n : ℕ) → tabulate f a n ≡ tabulate g a n
-unfolding tabulate
-tabulate-same f g h a zero = refl
-tabulate-same f g h a (suc n) = rw (h a, tabulate-same f g h (suc a) n)
-
 length-measured : (w : List ℤ) → length (measured w) ≡ 200
 unfolding measured
-length-measured w = length-tabulate (nsdf w) 31 200
+length-measured w = length-tabulate (λ k. nsdf w (31 + k)) 200
 
 pub measured-at : (w : List ℤ) (k : ℕ) → k < 200 → at (measured w) k ≡ nsdf w (31 + k)
 unfolding measured
-measured-at w k h = tabulate-at (nsdf w) 31 200 k h
+measured-at w k h = tabulate-at (λ k. nsdf w (31 + k)) 200 k nan h
 
 -- the first k lags are measured
-abbrev pub Measured : List ℤ → List Float → ℕ → Type 0
-Measured w d k = (k ≤ 200) × (length d ≡ 200) × (take k d ≡ take k (measured w))
+abbrev pub Measuring : List ℤ → List Float → List Float → ℕ → Type 0
+Measuring w d₀ d k = Filling (measured w) (drop k (measured w)) d₀ d k
 
-pub measure-turn : (w : List ℤ) (d : List Float) (k : ℕ) (v : Float) → k < 200 → Measured w d k → v ≡ nsdf w (31 + k) → Measured w (set d k v) (k + 1)
-measure-turn w d k v h m e = (
-  omega arith,
-  length-set d k v ∙ m .1,
-  rw add-one
-      (take-suc-set d k v (omega arith)
-      ∙ ap (λ (l : List Float). l ++ (v ∷ [])) (m .2)
-      ∙ ap (λ (x : Float). take k (measured w) ++ (x ∷ [])) (e ∙ sym (measured-at w k h))
-      ∙ sym (take-suc (measured w) k nan (subst (λ (n : ℕ). k < n) (sym (length-measured w)) h))),
-)
+module _ (w : List ℤ) {d₀ : List Float} where
+  pub measure-first : length d₀ ≡ 200 → Measuring w d₀ d₀ 0
+  measure-first e = fill-start (measured w) d₀ (le-of-eq (length-measured w ∙ sym e))
 
-pub measure-last : (w : List ℤ) (d : List Float) (k : ℕ) → 200 ≤ k → Measured w d k → d ≡ measured w
-measure-last w d k h m = sym (take-all k d (omega arith)) ∙ m .2 ∙ take-all k (measured w) (omega (arith, length-measured w))
+  pub measure-turn : {d : List Float} (k : ℕ) (v : Float) → k < 200 → v ≡ nsdf w (31 + k) → Measuring w d₀ d k → Measuring w d₀ (set d k v) (k + 1)
+  measure-turn k v h e m = rw (e ∙ sym (measured-at w k h)) (fill-entry (measured w) k nan (rw (length-measured w) h) m)
+
+  pub measure-last : {d : List Float} (k : ℕ) → length d₀ ≡ 200 → 200 ≤ k → Measuring w d₀ d k → d ≡ measured w
+  measure-last k e h m = listed-all (fill-over (measured w) k (rw (length-measured w) h) m) (le-of-eq (e ∙ sym (length-measured w)))
 
 -- ---- the best of the peaks, and the first that is near it: `best` with the peaks from k on, and the first from k on
 

@@ -1,22 +1,23 @@
 -- A take whose samples are all multiplied by one whole number other than 0, of any size, has the same periodicities and the same estimates,
 -- to the last bit: numerator and denominator of the fraction gain its square, and the fraction alone is rounded. Assumes nothing.
-use mathlib.Core.Path.{_≡_, refl, sym, ap, _∙_, subst}
-use Prim.Native.Nat.{ℕ, zero, suc, _*_, _<_, zero-le, suc-le-suc}
+use mathlib.Core.Path.{_≡_, refl, sym, ap, _∙_, subst, fun-ext}
+use Prim.Native.Nat.{ℕ, zero, suc, _+_, _*_, _<_, zero-le, suc-le-suc}
 use native.Mathlib.Nat.{mul-comm, mul-assoc, mul-left-comm, mul-pos, mul-add, mul-zero, lt-irrefl}
 use native.Mathlib.Omega.{arith}
 use mathlib.Core.Bool.{true, false}
 use mathlib.Core.List.{List, [], _∷_, map}
 use lib.Dec.{eqb·suc-zero}
 use lib.IntN.{ℤ, pos, negsuc, negℤ, natAbs, _+ℤ_, _*ℤ_, *ℤ-comm, zero-*ℤ, *ℤ-zero, sucℤ-*ℤ, negℤ-negℤ, +ℤ-assoc, +ℤ-comm}
-use lib.ListN.{take, drop}
-use lib.Ieee.{Format, binary64, round}
+use lib.ListN.{drop}
+use lib.Ieee.{Float, Format, binary64, round}
 use lib.Ieee.Scale.{round-same}
 use borrow.Author.Tests.{ne-eqb}
 use Rattle.floats.specs.Ratio.{ratio}
+use Rattle.lists.specs.Frames.{tabulate}
+use Rattle.lists.proofs.Parts.{take-map, drop-map}
 use Rattle.nsdf.specs.Nsdf.{cross, power, square, normalised, nsdf, window}
-use Rattle.nsdf.specs.Period.{tabulate, measured, estimated, periodHz}
+use Rattle.nsdf.specs.Period.{measured, estimated, periodHz}
 use Rattle.nsdf.proofs.Whole.{abs-mul}
-use Rattle.nsdf.proofs.Peaks.{tabulate-same}
 
 -- ---- signs
 
@@ -112,16 +113,6 @@ ratio-scaled f k e (negsuc n) K E =
 
 -- ---- the law
 
-take-map : (f : ℤ → ℤ) (n : ℕ) (xs : List ℤ) → take n (map f xs) ≡ map f (take n xs)
-take-map f zero xs = refl
-take-map f (suc n) [] = refl
-take-map f (suc n) (x ∷ xs) = ap (λ (l : List ℤ). f x ∷ l) (take-map f n xs)
-
-drop-map : (f : ℤ → ℤ) (n : ℕ) (xs : List ℤ) → drop n (map f xs) ≡ map f (drop n xs)
-drop-map f zero xs = refl
-drop-map f (suc n) [] = refl
-drop-map f (suc n) (x ∷ xs) = drop-map f n xs
-
 square-pos : (k : ℤ) → (k ≡ pos 0 → ⊥) → 0 < square k
 square-pos (pos zero) h = absurd (h refl)
 square-pos (pos (suc n)) h = mul-pos (suc-le-suc zero-le) (suc-le-suc zero-le)
@@ -149,5 +140,5 @@ module _ (k : ℤ) (nonzero : k ≡ pos 0 → ⊥) where
   unfolding periodHz measured
   period-scaled xs centre =
       ap estimated
-      (ap (λ (w : List ℤ). tabulate (nsdf w) 31 200) (window-scaled xs centre)
-      ∙ tabulate-same _ _ (nsdf-scaled (window xs centre)) 31 200)
+      (ap (λ (w : List ℤ). tabulate (λ k. nsdf w (31 + k)) 200) (window-scaled xs centre)
+      ∙ ap (λ (f : ℕ → Float). tabulate f 200) (fun-ext (λ k. nsdf-scaled (window xs centre) (31 + k))))

@@ -3,7 +3,7 @@ use mathlib.Core.Path.{_≡_, refl, sym, ap, _∙_}
 use Prim.Native.Nat.{ℕ, zero, suc, _+_, _-_, _*_, _≤_, _<_, min, zero-le, suc-le-suc}
 use native.Mathlib.Nat.{mul-one, one-mul, suc-mul, mul-pos, zero-mul, mul-le-mul-right, le-of-suc-le-suc, not-suc-le-zero, sub-zero, zero-sub, suc-sub-suc, zero-min, min-zero, suc-min-suc}
 use native.Mathlib.Omega.{arith}
-use mathlib.Core.Bool.{Bool, false, cond}
+use mathlib.Core.Bool.{false, cond}
 use mathlib.Core.List.{[]}
 use borrow.Author.Tests.{ne-eqb}
 use lib.Dec.{eqb, eqb·suc-zero, lit<}
@@ -11,10 +11,12 @@ use lib.IntN.{ℤ, pos}
 use lib.ListN.{take, drop, replicate}
 use lib.Ieee.{Float, fin, binary64, round, lt}
 use lib.Ieee.Scale.{round-same}
+use Rattle.floats.specs.Ratio.{ratio}
 use Rattle.lists.specs.Results.{keep}
+use Rattle.lists.proofs.Fill.{keep-over, keep-pass}
 use Rattle.nsdf.specs.declared.period.Estimate.the-variants.{Nothing}
 use Rattle.nsdf.specs.Nsdf.{square, cross, power, normalised, nsdf, window}
-use Rattle.nsdf.specs.Period.{near, measured, isPeak, bestPeak, estimated, periodHz}
+use Rattle.nsdf.specs.Period.{measured, isPeak, bestPeak, estimated, periodHz}
 use Rattle.nsdf.proofs.Whole.{square-is}
 use Rattle.nsdf.proofs.Peaks.{measured-at}
 
@@ -59,7 +61,7 @@ power-steady (suc a) (suc b) v h = rw (power-steady a b v (le-of-suc-le-suc h)) 
 -- ---- the periodicity: 1 where there is energy, else 0
 
 abbrev full : ℕ → Float
-full c = cond (eqb c 0) (fin false 0 (pos 0)) (near 1 1)
+full c = cond (eqb c 0) (fin false 0 (pos 0)) (ratio binary64 (pos 1) 1)
 
 normalised-full : (c : ℕ) → normalised (pos c) (2 * c) ≡ full c
 normalised-full zero = refl
@@ -94,13 +96,10 @@ no-peak m v k g h =
       not-above ((m - (31 + (k - 1))) * square v) ((m - (31 + k)) * square v) (mul-le-mul-right (square v) (omega arith)),
     )
 
-keep-none : (t : ℕ → Bool) (i n : ℕ) → ((k : ℕ) → i ≤ k → k < i + n → t k ≡ false) → keep t i n ≡ []
-unfolding keep
-keep-none t i zero f = refl
-keep-none t i (suc n) f = rw (f i (omega arith) (omega arith)) (keep-none t (suc i) n (λ k g h. f k (omega arith) (omega arith)))
-
 pub period-steady : (n : ℕ) (v : ℤ) (centre : ℕ) → periodHz (replicate n v) centre ≡ Nothing
 unfolding periodHz estimated bestPeak lt round
 period-steady n v centre =
     let m = min (centre + 256) n - (centre - 256) in
-    rw (window-steady n v centre, keep-none (isPeak (measured (replicate m v))) 1 198 (λ k g h. no-peak m v k g (omega arith)))
+    let peak = isPeak (measured (replicate m v)) in
+    let none : keep peak 1 198 ≡ [] = keep-pass peak 1 198 199 (λ k g h. no-peak m v k g (omega arith)) ∙ keep-over peak 199 199 (omega arith) in
+    rw (window-steady n v centre, none)

@@ -1,11 +1,12 @@
 -- The pitch of a take around a sample, from the peaks of its periodicity. Definitions only.
-use Prim.Native.Nat.{ℕ, zero, suc, _+_, _-_}
-use mathlib.Core.Bool.{Bool, true, false, cond, _&&_}
+use Prim.Native.Nat.{ℕ, _+_, _-_}
+use mathlib.Core.Bool.{Bool, true, cond, _&&_}
 use mathlib.Core.List.{List, [], _∷_, map, foldl}
 use lib.IntN.{ℤ, pos}
-use lib.ListN.{getD}
-use lib.Ieee.{Float, nan, inf, binary64, round, add, sub, mul, div, neg, lt, le, ofInt}
+use lib.Ieee.{Float, inf, binary64, add, sub, mul, div, neg, lt, le, ofInt}
 use Rattle.floats.specs.Plain.{zeroF, half, two}
+use Rattle.floats.specs.Ratio.{ratio}
+use Rattle.lists.specs.Frames.{at, tabulate}
 use Rattle.lists.specs.Results.{keep}
 use Rattle.nsdf.specs.declared.period.Estimate.{Estimate}
 use Rattle.nsdf.specs.declared.period.Estimate.the-variants.{Nothing, Hz}
@@ -13,22 +14,9 @@ use Rattle.nsdf.specs.declared.period.Peak.{Peak}
 use Rattle.nsdf.specs.declared.period.Peak.the-variants.{At, Missing}
 use Rattle.nsdf.specs.Nsdf.{window, nsdf}
 
--- the f64 nearest to a / b
-abbrev pub near : ℕ → ℕ → Float
-near a b = round binary64 false a b
-
--- f at i, i + 1, ..: n values
-unfoldable pub tabulate : (ℕ → Float) → ℕ → ℕ → List Float
-tabulate f i zero = []
-tabulate f i (suc n) = f i ∷ tabulate f (suc i) n
-
 -- the periodicity at lags 31 to 230: lag 31 + k stands at k
 unfoldable pub measured : List ℤ → List Float
-measured w = tabulate (nsdf w) 31 200
-
--- the value at k
-abbrev pub at : List Float → ℕ → Float
-at d k = getD d k nan
+measured w = tabulate (λ k. nsdf w (31 + k)) 200
 
 -- higher than on its left, and at least as high as on its right
 abbrev pub isPeak : List Float → ℕ → Bool
@@ -73,13 +61,13 @@ unfoldable pub refined : List Float → ℕ → Float
 refined d k = add binary64 (ofInt binary64 (pos (31 + k))) (clamped (shift (at d (k - 1)) (at d k) (at d (k + 1))))
 
 -- 16,000 samples a second over the refined lag
-abbrev pub hertz : List Float → Peak → Estimate
-hertz d Missing = Nothing
-hertz d (At k) = Hz (div binary64 (near 16000 1) (refined d k))
+abbrev pub byPeak : List Float → Peak → Estimate
+byPeak d Missing = Nothing
+byPeak d (At k) = Hz (div binary64 (ratio binary64 (pos 16000) 1) (refined d k))
 
 -- none where the best is below 0.6; else by the first peak that reaches 0.9 of the best
 unfoldable pub estimated : List Float → Estimate
-estimated d = cond (lt (bestPeak d) (near 6 10)) Nothing (hertz d (firstPeak d (mul binary64 (near 9 10) (bestPeak d))))
+estimated d = cond (lt (bestPeak d) (ratio binary64 (pos 6) 10)) Nothing (byPeak d (firstPeak d (mul binary64 (ratio binary64 (pos 9) 10) (bestPeak d))))
 
 -- the pitch around a sample, from the window that is centred there
 unfoldable pub periodHz : List ℤ → ℕ → Estimate

@@ -1,4 +1,4 @@
--- Running sums of squares. Definitions only.
+-- Scaffolding of the code's loops: running sums of squares. Definitions only.
 use Prim.Native.Nat.{ℕ, _+_, _≤_, _^_}
 use mathlib.Core.Path.{_≡_}
 use mathlib.Core.List.{List, [], _∷_}

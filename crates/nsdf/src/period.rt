@@ -80,10 +80,7 @@ fn is_near(d: &[f64; 200], least: f64, k: usize) -> bool
     requires { ⌜ (0 < k) × (k < 199) ⌝ }
     ensures { λ r. ⌜ r ≡ isNear (now (d .entry)) least k ⌝ }
 {
-    if is_peak(d, k) {
-        return d[k] >= least;
-    }
-    false
+    is_peak(d, k) && d[k] >= least
 }
 
 // The first such peak: the shortest lag.
@@ -173,7 +170,8 @@ fn end_of(centre: usize, n: usize) -> usize
     centre + HALF_WINDOW
 }
 
-// The pitch of a take around a sample, if it repeats well enough there, from the 512 samples centred on it, as far as the take goes.
+// The pitch of a take around a sample, if it repeats well enough there, from the 512 samples centred on it, as far as the
+// take goes.
 // None where the take has too few of them for a lag to be measured.
 pub fn period_hz(samples: &[i16], centre: usize) -> Estimate
     ensures { λ r. ⌜ r ≡ periodHz (now (samples .entry)) centre ⌝ }

@@ -76,7 +76,8 @@ pub fn running_squares(window: &[i16]) -> [u64; 513]
     sq
 }
 
-// What `power` gives, from the running squares: those of the samples that have a later partner, and those that have an earlier one.
+// What `power` gives, from the running squares: those of the samples that have a later partner, and those that have an
+// earlier one.
 pub fn running_power(window: &[i16], sq: &[u64; 513], lag: usize) -> u64
     requires { ⌜ length (now window) ≤ 512 ⌝ }
     requires { ⌜ Running (now window) (now sq) ⌝ }

@@ -4,9 +4,9 @@ use mathlib.Core.Bool.{Bool, true, false, cond}
 use mathlib.Core.List.{List}
 use mathlib.Core.Logic.{_⊎_, inl, inr}
 use lib.Ieee.{Float, le}
-use Rattle.smooth.specs.Extrema.{at}
-use Rattle.nuclei.specs.Merging.{Picks}
+use Rattle.lists.specs.Frames.{at}
 use Rattle.nuclei.specs.Nuclei.{louder}
+use Rattle.nuclei.proofs.Merge.{Picks}
 
 pub louder-picks : (s : List Float) → Picks (louder s)
 unfolding louder

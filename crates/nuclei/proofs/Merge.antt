@@ -6,7 +6,7 @@ use native.Mathlib.Nat.{sub-zero}
 use mathlib.Core.Path.{_≡_, refl, sym, ap, subst, _∙_}
 use mathlib.Core.Bool.{Bool, true, false, cond}
 use mathlib.Core.List.{List, [], _∷_, _++_, reverse, reverse-cons, append-assoc}
-use mathlib.Core.Logic.{⊎-elim}
+use mathlib.Core.Logic.{_⊎_, ⊎-elim}
 use lib.ListN.{length, getD, set, length-set}
 use lib.Seq.{getD-set-same}
 use Rattle.lists.specs.Results.{Front, keep}
@@ -17,7 +17,11 @@ use Rattle.lists.specs.Stack.{stack, Kept, Falls}
 use Rattle.lists.proofs.Fill.{keep-step, keep-over}
 use Rattle.lists.proofs.Entries.{each-append}
 use Rattle.lists.proofs.Stacks.{stack-pop, stack-length, kept-push, kept-front, falls-under, falls-few, falls-rise}
-use Rattle.nuclei.specs.Merging.{Picks, pushBy, mergeBy, merged, Apart}
+use Rattle.nuclei.specs.Merging.{pushBy, mergeBy, merged, Apart}
+
+-- which stays is one of the two
+abbrev pub Picks : (ℕ → ℕ → ℕ) → Type 0
+Picks left = (a b : ℕ) → (left a b ≡ a) ⊎ (left a b ≡ b)
 
 -- ---- the frame before the one that is pushed
 module _ (l : List ℕ) (k x : ℕ) (h : k ≡ 0 → ⊥) (f : Falls x (stack l k)) where

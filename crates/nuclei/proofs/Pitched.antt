@@ -1,34 +1,22 @@
 -- Every frame of a long run has a pitch within 2 frames, and so has every frame near a voiced one. Assumes nothing.
-use Prim.Native.Nat.{ℕ, zero, suc, _+_, _-_, _<_, _≤_, min}
+use Prim.Native.Nat.{ℕ, _+_, _-_, _<_, _≤_, min}
 use native.Mathlib.Omega.{arith}
-use native.Mathlib.Nat.{eq-or-lt-of-le}
-use mathlib.Core.Path.{_≡_, refl, sym, subst}
+use mathlib.Core.Path.{_≡_, refl}
 use mathlib.Core.Bool.{Bool, true, false, cond}
 use mathlib.Core.List.{List, [], _∷_, map}
-use mathlib.Core.Logic.{⊎-elim}
 use lib.ListN.{length}
 use lib.Ieee.{Float}
 use lib.Dec.{leb}
 use borrow.Author.Tests.{leb-true, leb-false}
 use Rattle.lists.specs.Results.{filter}
 use Rattle.lists.specs.By.{Each}
-use Rattle.lists.proofs.Tests.{or-left, or-right}
 use Rattle.lists.proofs.Entries.{each-map, each-kept, each-of-map}
 use Rattle.lists.proofs.Members.{each-keep}
-use Rattle.smooth.specs.Extrema.{someFrame}
-use Rattle.runs.specs.Grouped.{attach, grouped}
+use Rattle.lists.proofs.Walks.{some-at}
+use Rattle.lists.specs.Grouped.{attach, grouped}
 use Rattle.runs.specs.Runs.{Span, voiced, voicedFrames, sole, close, joined, voicedRuns, long, span, longRuns}
 use Rattle.runs.specs.declared.voiced.Run.{Run}
 use Rattle.nuclei.specs.Peaks.{pitchNear}
-
-some-at : (t : ℕ → Bool) (a k j : ℕ) → a ≤ j → j < a + k → t j ≡ true → someFrame t a k ≡ true
-unfolding someFrame
-some-at t a zero j h i e = absurd (omega arith)
-some-at t a (suc k) j h i e =
-    ⊎-elim
-    (λ q. or-left (t a) (someFrame t (a + 1) k) (subst (λ (z : ℕ). t z ≡ true) (sym q) e))
-    (λ l. or-right (t a) (someFrame t (a + 1) k) (some-at t (a + 1) k j (omega arith) (omega arith) e))
-    (eq-or-lt-of-le h)
 
 module _ (pitch : List Float) where
   -- a frame at most 2 after a voiced one

@@ -3,7 +3,7 @@ use Prim.Native.Nat.{ℕ, _+_, _-_, _<_, _≤_}
 use native.Mathlib.Omega.{arith}
 use mathlib.Core.Path.{_≡_, refl, sym, ap, subst, _∙_}
 use mathlib.Core.Bool.{Bool, true, false, not, cond}
-use mathlib.Core.List.{List, [], _∷_, _++_, map}
+use mathlib.Core.List.{List, [], _∷_, map}
 use lib.ListN.{length}
 use lib.Dec.{leb, ltb}
 use lib.Ieee.{Float, binary32, le, add}
@@ -13,10 +13,11 @@ use Rattle.lists.specs.By.{Each}
 use Rattle.lists.specs.Sorted.{StrictlyRises}
 use Rattle.lists.specs.Marks.{member, inOrder}
 use Rattle.lists.proofs.Tests.{and-cases}
-use Rattle.lists.proofs.Entries.{each-map, each-append, each-filter, each-of-map}
-use Rattle.lists.proofs.Members.{each-member, member-each, strict-few, in-order-is}
+use Rattle.lists.proofs.Entries.{each-map, each-all, each-both, each-append, each-filter, each-of-map}
+use Rattle.lists.proofs.Members.{each-member, member-each, strict-between, strict-few, in-order-is}
 use Rattle.smooth.specs.Level.{levels}
-use Rattle.smooth.specs.Extrema.{at, inside, localExtrema}
+use Rattle.lists.specs.Frames.{at}
+use Rattle.smooth.specs.Extrema.{inside, localExtrema}
 use Rattle.smooth.specs.declared.extrema.Extremum.the-variants.{Max}
 use Rattle.smooth.proofs.Averages.{length-levels}
 use Rattle.smooth.proofs.Best.{middle-within}
@@ -24,35 +25,21 @@ use Rattle.region.specs.Percentile.{floorOf}
 use Rattle.region.specs.declared.Settings.{Settings}
 use Rattle.region.specs.declared.Floor.{Floor}
 use Rattle.region.specs.declared.Floor.the-variants as floors
-use Rattle.runs.specs.Runs.{Span, longRuns, Within}
+use Rattle.runs.specs.Runs.{Span, longRuns}
 use Rattle.runs.specs.Syllables.{syllableRuns}
 use Rattle.runs.specs.Near.{runOf, Answers}
 use Rattle.runs.specs.declared.near.Found.{Found}
 use Rattle.runs.specs.declared.near.Found.the-variants.{At, Nothing}
 use Rattle.runs.proofs.Spacing.{spaced-within, long-spaced}
-use Rattle.runs.proofs.Nearest.{run-of-answers}
-use Rattle.nuclei.specs.declared.peaks.Bounds.{Bounds}
+use Rattle.runs.proofs.Nearest.{run-of-answers, found-each}
+use Rattle.region.specs.declared.Bounds.{Bounds}
 use Rattle.nuclei.specs.Merging.{Apart}
 use Rattle.nuclei.specs.Peaks.{pitchNear, speechByLevel, voicedPeak, clampTo, moved, ontoRun, peaksOnto, voicedPeaks}
 use Rattle.nuclei.specs.Tops.{unheldFrom, unheld, runsHeld, partFirst, partEnd, topOf, standsAlone, onFlank, hasTop, topsOf}
-use Rattle.nuclei.specs.Nuclei.{candidates, oneNucleus, louder, nucleusFrames, nucleusAt, nucleiOver, nucleiFrom, nucleiOf, framesOf}
+use Rattle.nuclei.specs.Nuclei.{candidates, oneNucleus, louder, nucleusFrames, nucleusAt, nucleiOver, overFloor, nucleiOf, framesOf}
 use Rattle.nuclei.proofs.Merge.{merged-each, merged-rises, merged-apart}
 use Rattle.nuclei.proofs.Choice.{louder-picks}
 use Rattle.nuclei.proofs.Pitched.{PitchedRun, long-pitched}
-
--- frames that rise strictly, between closer bounds where each lies there
-strict-between : (a n lo hi : ℕ) (xs : List ℕ) → StrictlyRises a n xs → Each (λ x. (lo ≤ x) × (x < hi)) xs → StrictlyRises lo hi xs
-strict-between a n lo hi [] s e = tt
-strict-between a n lo hi (x ∷ xs) s e = (e .0 .0, e .0 .1, below (x + 1) xs (s .2) (e .1))
-  where
-    below : (c : ℕ) (ys : List ℕ) → StrictlyRises c n ys → Each (λ y. (lo ≤ y) × (y < hi)) ys → StrictlyRises c hi ys
-    below c [] t f = tt
-    below c (y ∷ ys) t f = (t .0, f .0 .1, below (y + 1) ys (t .2) (f .1))
-
--- what holds of every entry holds of one in the middle
-each-middle : {A : Type 0} (P : A → Type 0) (l : List A) (x : A) (r : List A) → Each P (l ++ (x ∷ r)) → P x
-each-middle P [] x r e = e .0
-each-middle P (y ∷ l) x r e = each-middle P l x r (e .1)
 
 clamp-within : (first last i : ℕ) → first ≤ last → (first ≤ clampTo first last i) × (clampTo first last i ≤ last)
 clamp-within first last i h = go (ltb i first) refl
@@ -142,11 +129,7 @@ module _ (s pitch : List Float) (rs syllables : List Span) (b : Bounds) (p : Set
   pub nuclei-speech : Each (λ x. speechByLevel s b x ≡ true) (nucleusFrames s pitch rs syllables b p)
   nuclei-speech =
       nuclei-each s pitch rs syllables b p (λ x. speechByLevel s b x ≡ true)
-      (candidates-each s pitch b (λ x. speechByLevel s b x ≡ true) rs (p .dip) onto-speech (λ r. Unit) (all rs) (λ r u. top-speech r))
-    where
-      all : (rs : List Span) → Each (λ r. Unit) rs
-      all [] = tt
-      all (r ∷ rs) = (tt, all rs)
+      (candidates-each s pitch b (λ x. speechByLevel s b x ≡ true) rs (p .dip) onto-speech (λ r. Unit) (each-all (λ r. Unit) (λ r. tt) rs) (λ r u. top-speech r))
 
   -- they rise strictly in the region
   pub nuclei-within : b .end ≤ length s → StrictlyRises (b .start) (b .end) (nucleusFrames s pitch rs syllables b p)
@@ -167,11 +150,9 @@ module _ (s pitch : List Float) (syllables : List Span) (b : Bounds) (p : Settin
   Voiced r = (r .first ≤ r .last) × PitchedRun pitch r
 
   long-voiced : Each Voiced (longRuns pitch)
-  long-voiced = each-both (longRuns pitch) (spaced-within 0 (length pitch) (longRuns pitch) (long-spaced pitch)) (long-pitched pitch)
-    where
-      each-both : (rs : List Span) → Within (length pitch) rs → Each (PitchedRun pitch) rs → Each Voiced rs
-      each-both [] u v = tt
-      each-both (r ∷ rs) u v = ((u .0 .0, v .0), each-both rs (u .1) (v .1))
+  long-voiced =
+      each-both (λ (r : Span). (r .first ≤ r .last) × (r .last < length pitch)) (PitchedRun pitch) Voiced (λ r u v. (u .0, v)) (longRuns pitch)
+      (spaced-within 0 (length pitch) (longRuns pitch) (long-spaced pitch)) (long-pitched pitch)
 
   onto-pitched : (x : ℕ) → voicedPeak s pitch b x ≡ true → pitchNear pitch (ontoRun s b (longRuns pitch) x) ≡ true
   unfolding voicedPeak ontoRun
@@ -185,7 +166,7 @@ module _ (s pitch : List Float) (syllables : List Span) (b : Bounds) (p : Settin
       go (At k first last) a = pick (speechByLevel s b (clampTo first last x))
         where
           run : Voiced (record { first = first; last = last })
-          run = each-middle Voiced (a .earlier) (record { first = first; last = last }) (a .later) (subst (Each Voiced) (a .split) long-voiced)
+          run = found-each Voiced (longRuns pitch) x k first last long-voiced a
 
           pick : (c : Bool) → pitchNear pitch (cond c (clampTo first last x) x) ≡ true
           pick true = run .1 (clampTo first last x) (clamp-within first last x (run .0) .0) (clamp-within first last x (run .0) .1)
@@ -205,6 +186,10 @@ module _ (s pitch : List Float) (syllables : List Span) (b : Bounds) (p : Settin
       (candidates-each s pitch b (λ x. pitchNear pitch x ≡ true) (longRuns pitch) (p .dip) onto-pitched Voiced long-voiced top-pitched)
 
 -- ---- the nuclei of a take
+pub over-floor : {A : Type 0} (P : List A → Type 0) (r : Floor) (over : Float → List A) → P [] → ((x : Float) → P (over x)) → P (overFloor r over)
+over-floor P floors.Nothing over n f = n
+over-floor P (floors.At x) over n f = f x
+
 pub frames-back : (s : List Float) (floor : Float) (fs : List ℕ) → framesOf (map (nucleusAt s floor) fs) ≡ fs
 frames-back s floor [] = refl
 frames-back s floor (f ∷ fs) = ap (λ (l : List ℕ). f ∷ l) (frames-back s floor fs)
@@ -222,11 +207,7 @@ module _ (db pitch : List Float) (start end : ℕ) (p : Settings) (w : end ≤ l
   -- what holds of their frames over any floor, and of none
   by-floor : (P : List ℕ → Type 0) → P [] → ((x : Float) → P (frames x)) → P (framesOf (nucleiOf db pitch start end p))
   unfolding nucleiOf nucleiOver
-  by-floor P n f = go (floorOf db)
-    where
-      go : (r : Floor) → P (framesOf (nucleiFrom db pitch start end p r))
-      go floors.Nothing = n
-      go (floors.At x) = subst P (sym (frames-back (levels db) x (frames x))) (f x)
+  by-floor P n f = over-floor (λ ns. P (framesOf ns)) (floorOf db) (λ x. map (nucleusAt (levels db) x) (frames x)) n (λ x. subst P (sym (frames-back (levels db) x (frames x))) (f x))
 
   -- they rise strictly in the region
   pub take-rises : StrictlyRises start end (framesOf (nucleiOf db pitch start end p))

@@ -15,11 +15,11 @@ use Rattle.smooth.specs.Extrema.{argmaxMiddle}
 use Rattle.smooth.specs.declared.extrema.Extremum.the-variants.{Max}
 use Rattle.smooth.proofs.Best.{middle-within}
 use Rattle.runs.specs.Runs.{Span, spans}
-use Rattle.runs.specs.Near.{runOf}
+use Rattle.runs.specs.Near.{runOf, found, numberOf}
 use Rattle.runs.proofs.Spans.{runAt, spansFrom, spans-step, spans-over, length-spans}
-use Rattle.nuclei.specs.declared.peaks.Bounds.{Bounds}
+use Rattle.region.specs.declared.Bounds.{Bounds}
 use Rattle.nuclei.specs.Peaks.{voicedPeak, ontoRun, peaksOnto}
-use Rattle.nuclei.specs.Tops.{found, numberOf, runsHeld, unheldFrom, partFirst, partEnd, topOf, standsAlone, hasTop, topsOf}
+use Rattle.nuclei.specs.Tops.{runsHeld, unheldFrom, partFirst, partEnd, topOf, standsAlone, hasTop, topsOf}
 
 -- what passes, each as something else, is no more than there is
 picked-few : {A B : Type 0} (g : A → B) (p : A → Bool) (xs : List A) → length (map g (filter p xs)) ≤ length xs

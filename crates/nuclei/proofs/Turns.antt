@@ -3,8 +3,8 @@
 use Prim.Native.Nat.{ℕ, _+_, _-_, _<_, _≤_}
 use native.Mathlib.Omega.{arith}
 use mathlib.Core.Path.{_≡_, refl, sym, ap, subst, _∙_}
-use mathlib.Core.Bool.{Bool, true, false, _||_, not}
-use mathlib.Core.List.{List, [], _∷_, _++_, map, append-nil, append-assoc}
+use mathlib.Core.Bool.{Bool, true, false, _||_, not, cond}
+use mathlib.Core.List.{List, [], _∷_, _++_, map, map-append, append-nil, append-assoc}
 use lib.ListN.{length, getD, length-append, List·getD-append}
 use lib.Seq.{getD-append-seam}
 use lib.Dec.{leb, ltb}
@@ -14,30 +14,38 @@ use Rattle.lists.specs.Results.{consIf, filter}
 use Rattle.lists.specs.By.{Each}
 use Rattle.lists.specs.Marks.{member}
 use Rattle.lists.proofs.Tests.{and-cases}
+use Rattle.lists.proofs.Fill.{filter-append}
 use Rattle.lists.proofs.Entries.{each-map, each-append, each-at}
 use Rattle.lists.proofs.Members.{member-append}
 use Rattle.smooth.specs.declared.extrema.Extremum.the-variants.{Max}
 use Rattle.smooth.proofs.Best.{middle-within}
 use Rattle.runs.specs.Runs.{Span}
-use Rattle.runs.specs.Near.{distance, runOf, Answers}
+use Rattle.runs.specs.Near.{distance, runOf, found, numberOf, Answers}
 use Rattle.runs.specs.declared.near.Found.{Found}
 use Rattle.runs.specs.declared.near.Found.the-variants.{At, Nothing}
 use Rattle.runs.proofs.Nearest.{run-of-answers}
-use Rattle.nuclei.specs.declared.peaks.Bounds.{Bounds}
+use Rattle.region.specs.declared.Bounds.{Bounds}
 use Rattle.nuclei.specs.Peaks.{voicedPeaks}
-use Rattle.nuclei.specs.Tops.{found, numberOf, runsHeld, unheldFrom, unheld, partFirst, partEnd, topOf, standsAlone, hasTop, topsOf}
+use Rattle.nuclei.specs.Tops.{runsHeld, unheldFrom, unheld, partFirst, partEnd, topOf, standsAlone, hasTop, topsOf}
 use Rattle.nuclei.specs.Nuclei.{candidates}
-use Rattle.nuclei.specs.InTurn.{addTop, addTops}
+
+-- ---- the runs taken in turn, each asked of the candidates so far
+module _ (s : List Float) (b : Bounds) (dip : Float) (rs : List Span) where
+  -- run r, of number k, adds its top to the candidates so far unless one of them belongs to it
+  unfoldable pub addTop : ℕ → Span → List ℕ → List ℕ
+  addTop k r cs = cond (member (runsHeld rs cs) k) cs (cs ++ topsOf s b dip (r ∷ []))
+
+  -- so do runs that are numbered from k on, one after the other
+  unfoldable pub addTops : ℕ → List Span → List ℕ → List ℕ
+  addTops k [] cs = cs
+  addTops k (r ∷ qs) cs = addTops (k + 1) qs (addTop k r cs)
 
 held-append : (rs : List Span) (xs ys : List ℕ) → runsHeld rs (xs ++ ys) ≡ runsHeld rs xs ++ runsHeld rs ys
-unfolding runsHeld filter
-held-append rs [] ys = refl
-held-append rs (x ∷ xs) ys = go (found (runOf rs x)) (held-append rs xs ys)
-  where
-    go : (c : Bool) → runsHeld rs (xs ++ ys) ≡ runsHeld rs xs ++ runsHeld rs ys →
-        map numberOf (consIf c (runOf rs x) (filter found (map (runOf rs) (xs ++ ys)))) ≡ map numberOf (consIf c (runOf rs x) (filter found (map (runOf rs) xs))) ++ runsHeld rs ys
-    go true e = ap (λ (l : List ℕ). numberOf (runOf rs x) ∷ l) e
-    go false e = e
+unfolding runsHeld
+held-append rs xs ys =
+    ap (λ (l : List Found). map numberOf (filter found l)) (map-append (runOf rs) xs ys)
+    ∙ ap (map numberOf) (filter-append found (map (runOf rs) xs) (map (runOf rs) ys))
+    ∙ map-append numberOf (filter found (map (runOf rs) xs)) (filter found (map (runOf rs) ys))
 
 -- numbers below k do not hold k
 low-member : (k : ℕ) (xs : List ℕ) → Each (λ j. j < k) xs → member xs k ≡ false

@@ -1,5 +1,4 @@
 pub mod Merging
 pub mod Peaks
 pub mod Tops
-pub mod InTurn
 pub mod Nuclei

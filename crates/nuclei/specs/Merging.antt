@@ -3,11 +3,6 @@ use Prim.Native.Nat.{ℕ}
 use mathlib.Core.Path.{_≡_}
 use mathlib.Core.Bool.{Bool, false, cond}
 use mathlib.Core.List.{List, [], _∷_, reverse}
-use mathlib.Core.Logic.{_⊎_}
-
--- which stays is one of the two
-abbrev pub Picks : (ℕ → ℕ → ℕ) → Type 0
-Picks left = (a b : ℕ) → (left a b ≡ a) ⊎ (left a b ≡ b)
 
 module _ (one : ℕ → ℕ → Bool) (left : ℕ → ℕ → ℕ) where
   -- a frame onto the kept ones, of which the last comes first: where it is one with that, the frame that stays goes onto the others in turn

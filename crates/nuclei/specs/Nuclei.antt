@@ -5,18 +5,20 @@ use mathlib.Core.List.{List, [], _++_, map}
 use lib.ListN.{length}
 use lib.Dec.{ltb}
 use lib.Ieee.{Float, binary32, le, sub}
+use Rattle.lists.specs.Results.{Listed}
 use Rattle.lists.specs.Marks.{inOrder}
 use Rattle.smooth.specs.Level.{levels}
-use Rattle.smooth.specs.Extrema.{at, shallow}
+use Rattle.lists.specs.Frames.{at}
+use Rattle.smooth.specs.Extrema.{shallow}
 use Rattle.region.specs.Percentile.{floorOf}
-use Rattle.region.specs.Speech.{thresholdOver}
+use Rattle.region.specs.Speech.{boundsOver}
 use Rattle.region.specs.declared.Settings.{Settings}
 use Rattle.region.specs.declared.Floor.{Floor}
 use Rattle.region.specs.declared.Floor.the-variants.{Nothing, At}
 use Rattle.runs.specs.Runs.{Span, longRuns}
 use Rattle.runs.specs.Syllables.{syllableRuns}
 use Rattle.runs.specs.Near.{separate}
-use Rattle.nuclei.specs.declared.peaks.Bounds.{Bounds}
+use Rattle.region.specs.declared.Bounds.{Bounds}
 use Rattle.nuclei.specs.Merging.{merged}
 use Rattle.nuclei.specs.Peaks.{voicedPeaks}
 use Rattle.nuclei.specs.Tops.{unheld, topsOf}
@@ -33,6 +35,10 @@ framesOf = map (λ (n : Nucleus). n .frame)
 -- the strengths of nuclei
 abbrev pub strengthsOf : List Nucleus → List Float
 strengthsOf = map (λ (n : Nucleus). n .strength)
+
+-- what a call leaves that writes nuclei to two lists, and returns their count r
+abbrev pub NucleiListed : List Nucleus → List ℕ → List ℕ → List Float → List Float → ℕ → Type 0
+NucleiListed ns oldFrames frames oldStrengths strengths r = Listed (framesOf ns) oldFrames frames r × Listed (strengthsOf ns) oldStrengths strengths r
 
 -- the voiced peaks, and the tops of the long runs to which none of them belongs
 unfoldable pub candidates : List Float → List Float → List Span → Bounds → Float → List ℕ
@@ -60,12 +66,11 @@ nucleusAt s floor f = record { frame = f; strength = sub binary32 (at s f) floor
 unfoldable pub nucleiOver : List Float → List Float → List Span → List Span → Bounds → Float → Settings → List Nucleus
 nucleiOver s pitch rs syllables b floor p = map (nucleusAt s floor) (nucleusFrames s pitch rs syllables b p)
 
--- the nuclei of a take in the region start .. end, given its floor; none where it has none
-abbrev pub nucleiFrom : List Float → List Float → ℕ → ℕ → Settings → Floor → List Nucleus
-nucleiFrom db pitch start end p Nothing = []
-nucleiFrom db pitch start end p (At x) =
-    nucleiOver (levels db) pitch (longRuns pitch) (syllableRuns pitch) (record { threshold = thresholdOver (At x) (p .margin); start = start; end = end }) x p
+-- what there is over a floor; nothing where there is none
+abbrev pub overFloor : {A : Type 0} → Floor → (Float → List A) → List A
+overFloor Nothing over = []
+overFloor (At x) over = over x
 
 -- the nuclei of a take in the region start .. end
 unfoldable pub nucleiOf : List Float → List Float → ℕ → ℕ → Settings → List Nucleus
-nucleiOf db pitch start end p = nucleiFrom db pitch start end p (floorOf db)
+nucleiOf db pitch start end p = overFloor (floorOf db) (λ x. nucleiOver (levels db) pitch (longRuns pitch) (syllableRuns pitch) (boundsOver x p start end) x p)

@@ -6,13 +6,14 @@ use lib.ListN.{length}
 use lib.Dec.{ltb}
 use lib.Ieee.{Float, le}
 use Rattle.lists.specs.Results.{filter}
-use Rattle.smooth.specs.Extrema.{at, inside, someFrame, localExtrema}
+use Rattle.lists.specs.Frames.{at, someFrame}
+use Rattle.smooth.specs.Extrema.{inside, localExtrema}
 use Rattle.smooth.specs.declared.extrema.Extremum.the-variants.{Max}
 use Rattle.runs.specs.Runs.{Span, voiced}
 use Rattle.runs.specs.Near.{runOf}
 use Rattle.runs.specs.declared.near.Found.{Found}
 use Rattle.runs.specs.declared.near.Found.the-variants.{At, Nothing}
-use Rattle.nuclei.specs.declared.peaks.Bounds.{Bounds}
+use Rattle.region.specs.declared.Bounds.{Bounds}
 
 -- some frame of the n that there are passes and is within 2 of frame i
 abbrev pub someNear : (ℕ → Bool) → ℕ → ℕ → Bool

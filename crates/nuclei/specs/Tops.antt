@@ -1,31 +1,20 @@
 -- The tops of the voiced runs that hold no peak. Definitions only.
 use Prim.Native.Nat.{ℕ, _+_, _-_, min, max}
-use mathlib.Core.Bool.{Bool, true, false, _&&_, not}
+use mathlib.Core.Bool.{Bool, _&&_, not}
 use mathlib.Core.List.{List, [], _∷_, map}
 use lib.ListN.{length}
 use lib.Dec.{ltb}
 use lib.Ieee.{Float, binary32, lt, add}
 use Rattle.lists.specs.Results.{consIf, filter}
 use Rattle.lists.specs.Marks.{member}
-use Rattle.smooth.specs.Extrema.{at, argmaxMiddle}
+use Rattle.lists.specs.Frames.{at}
+use Rattle.smooth.specs.Extrema.{argmaxMiddle}
 use Rattle.runs.specs.Runs.{Span}
-use Rattle.runs.specs.Near.{runOf}
-use Rattle.runs.specs.declared.near.Found.{Found}
-use Rattle.runs.specs.declared.near.Found.the-variants.{At, Nothing}
-use Rattle.nuclei.specs.declared.peaks.Bounds.{Bounds}
+use Rattle.runs.specs.Near.{runOf, found, numberOf}
+use Rattle.region.specs.declared.Bounds.{Bounds}
 use Rattle.nuclei.specs.Peaks.{someNear, speechByLevel}
 
 -- ---- the runs that hold no peak
--- a run is found
-abbrev pub found : Found → Bool
-found (At k first last) = true
-found Nothing = false
-
--- the number of the run that is found
-abbrev pub numberOf : Found → ℕ
-numberOf (At k first last) = k
-numberOf Nothing = 0
-
 -- the numbers of the runs that frames belong to
 unfoldable pub runsHeld : List Span → List ℕ → List ℕ
 runsHeld rs frames = map numberOf (filter found (map (runOf rs) frames))

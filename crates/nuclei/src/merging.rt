@@ -9,24 +9,20 @@ ghost use lib.ListN.{length};
 ghost use Rattle.lists.specs.Results.{Front};
 ghost use Rattle.lists.specs.Marks.{inOrder};
 ghost use Rattle.lists.specs.Stack.{stack, Kept, Falls};
-ghost use Rattle.runs.specs.Runs.{spans};
+ghost use Rattle.runs.specs.Runs.{spans, SpansLent};
 ghost use Rattle.nuclei.specs.Merging.{pushBy, merged};
 ghost use Rattle.nuclei.specs.Nuclei.{oneNucleus, louder};
 
 // Whether two frames, the earlier first, are one nucleus: closer than the gap, or with no valley between them and not in
 // two different syllable runs.
 fn one_nucleus(s: &[f32], heads: &[u32], tails: &[u32], p: Settings, prev: u32, x: u32) -> bool
-    requires { ⌜ (prev < x) × (x < length (now s)) × (length (now heads) ≡ length (now tails)) × (length (now heads) ≤ 2048) ⌝ }
+    requires { ⌜ (prev < x) × (x < length (now s)) × SpansLent (now heads) (now tails) ⌝ }
     ensures { λ r. ⌜ r ≡ oneNucleus (now (s .entry)) (spans (now (heads .entry)) (now (tails .entry))) p prev x ⌝ }
 {
     if x - prev < p.gap {
         return true;
     }
-    if shallow_valley(s, prev as usize, x as usize, p.dip) {
-        !in_separate_runs(heads, tails, prev, x)
-    } else {
-        false
-    }
+    shallow_valley(s, prev as usize, x as usize, p.dip) && !in_separate_runs(heads, tails, prev, x)
 }
 
 // The louder of two frames, the earlier on a tie.
@@ -52,8 +48,10 @@ fn push_merging(
     k: usize,
     x: u32,
 ) -> usize
-    requires { ⌜ (k < length (now kept)) × (x < length (now s)) × Falls x (stack (now kept) k) × (length (now heads) ≡ length (now tails)) × (length (now heads) ≤ 2048) ⌝ }
-    ensures { λ r. ⌜ Kept (pushBy (oneNucleus (now (s .entry)) (spans (now (heads .entry)) (now (tails .entry))) p) (louder (now (s .entry))) (stack (now (kept .entry)) k) x) (now (kept .exit)) r ⌝ }
+    requires { ⌜ (k < length (now kept)) × (x < length (now s)) × Falls x (stack (now kept) k)
+        × SpansLent (now heads) (now tails) ⌝ }
+    ensures { λ r. ⌜ Kept (pushBy (oneNucleus (now (s .entry)) (spans (now (heads .entry)) (now (tails .entry))) p)
+        (louder (now (s .entry))) (stack (now (kept .entry)) k) x) (now (kept .exit)) r ⌝ }
 {
     if k == 0 {
         kept[0] = x;
@@ -79,8 +77,9 @@ pub fn merged(
     cands: &[u32],
     kept: &mut [u32],
 ) -> usize
-    requires { ⌜ (length (now s) ≤ 2048) × (length (now s) ≤ length (now kept)) × (length (now heads) ≡ length (now tails)) × (length (now heads) ≤ 2048) ⌝ }
-    ensures { λ r. ⌜ Front (merged (oneNucleus (now (s .entry)) (spans (now (heads .entry)) (now (tails .entry))) p) (louder (now (s .entry))) (inOrder (now (cands .entry)) (length (now (s .entry))))) (now (kept .exit)) r ⌝ }
+    requires { ⌜ (length (now s) ≤ 2048) × (length (now s) ≤ length (now kept)) × SpansLent (now heads) (now tails) ⌝ }
+    ensures { λ r. ⌜ Front (merged (oneNucleus (now (s .entry)) (spans (now (heads .entry)) (now (tails .entry))) p)
+        (louder (now (s .entry))) (inOrder (now (cands .entry)) (length (now (s .entry))))) (now (kept .exit)) r ⌝ }
 {
     let m = marks(cands);
     let mut k: usize = 0;

@@ -1,38 +1,15 @@
 // Peaks of the level with a pitch near them.
+use region::Bounds;
 use runs::near::Found;
+use runs::near::near_end;
+use runs::near::near_start;
 use runs::near::run_of;
 ghost use mathlib.Core.Path.{_≡_};
-ghost use Prim.Native.Nat.{_+_, _-_, _≤_, min};
+ghost use Prim.Native.Nat.{_≤_};
 ghost use lib.ListN.{length};
 ghost use Rattle.lists.specs.Results.{Listed};
-ghost use Rattle.runs.specs.Runs.{spans};
+ghost use Rattle.runs.specs.Runs.{spans, SpansLent};
 ghost use Rattle.nuclei.specs.Peaks.{pitchNear, speechByLevel, voicedPeak, clampTo, ontoRun, peaksOnto};
-
-// A frame with a pitch at most this far from it is voiced; one with a louder frame at most this far from it is on a flank.
-const RADIUS: usize = 2;
-
-// The speech threshold, and the frames of the region: start..end.
-pub struct Bounds {
-    pub threshold: f32,
-    pub start: usize,
-    pub end: usize,
-}
-
-// The first frame within 2 of frame at; near the start of the track frame 0.
-pub fn near_start(at: u32) -> usize
-    ensures { λ r. ⌜ r ≡ at - 2 ⌝ }
-{
-    let i = at as usize;
-    if i < RADIUS { 0 } else { i - RADIUS }
-}
-
-// One past the last frame within 2 of frame at; near the end of a track of n frames n.
-pub fn near_end(at: u32, n: usize) -> usize
-    ensures { λ r. ⌜ r ≡ min (at + 3) n ⌝ }
-{
-    let end = at as usize + RADIUS + 1;
-    if end < n { end } else { n }
-}
 
 // Whether some frame within 2 of frame at has a pitch.
 pub fn pitch_near(pitch: &[f32], at: u32) -> bool
@@ -50,7 +27,7 @@ pub fn pitch_near(pitch: &[f32], at: u32) -> bool
 }
 
 // Whether frame at is in the region, and its level at or above the speech threshold.
-pub fn is_speech(s: &[f32], b: Bounds, at: u32) -> bool
+pub fn level_is_speech(s: &[f32], b: Bounds, at: u32) -> bool
     requires { ⌜ b .end ≤ length (now s) ⌝ }
     ensures { λ r. ⌜ r ≡ speechByLevel (now (s .entry)) b at ⌝ }
 {
@@ -69,11 +46,7 @@ fn voiced_peak(s: &[f32], pitch: &[f32], b: Bounds, at: u32) -> bool
     requires { ⌜ b .end ≤ length (now s) ⌝ }
     ensures { λ r. ⌜ r ≡ voicedPeak (now (s .entry)) (now (pitch .entry)) b at ⌝ }
 {
-    if pitch_near(pitch, at) {
-        is_speech(s, b, at)
-    } else {
-        false
-    }
+    pitch_near(pitch, at) && level_is_speech(s, b, at)
 }
 
 // The frame of first..=last that is nearest to frame at.
@@ -92,14 +65,14 @@ fn clamp(first: u32, last: u32, at: u32) -> u32
 // Frame at, moved onto the nearest frame of the run that it belongs to if that one is speech; at itself where it
 // belongs to none.
 fn onto_run(s: &[f32], b: Bounds, first: &[u32], last: &[u32], at: u32) -> u32
-    requires { ⌜ (b .end ≤ length (now s)) × (length (now first) ≡ length (now last)) × (length (now first) ≤ 2048) ⌝ }
+    requires { ⌜ (b .end ≤ length (now s)) × SpansLent (now first) (now last) ⌝ }
     ensures { λ r. ⌜ r ≡ ontoRun (now (s .entry)) b (spans (now (first .entry)) (now (last .entry))) at ⌝ }
 {
     let Found::At(_, f, l) = run_of(first, last, at) else {
         return at;
     };
     let on = clamp(f, l, at);
-    if is_speech(s, b, on) { on } else { at }
+    if level_is_speech(s, b, on) { on } else { at }
 }
 
 // Writes those of the peaks that are candidates, each moved onto its run, and returns how many they are.
@@ -112,8 +85,9 @@ pub fn peaks_onto(
     peaks: &[u32],
     out: &mut [u32],
 ) -> usize
-    requires { ⌜ (b .end ≤ length (now s)) × (length (now first) ≡ length (now last)) × (length (now first) ≤ 2048) × (length (now peaks) ≤ length (now out)) ⌝ }
-    ensures { λ r. ⌜ Listed (peaksOnto (now (s .entry)) (now (pitch .entry)) b (spans (now (first .entry)) (now (last .entry))) (now (peaks .entry))) (now (out .entry)) (now (out .exit)) r ⌝ }
+    requires { ⌜ (b .end ≤ length (now s)) × SpansLent (now first) (now last) × (length (now peaks) ≤ length (now out)) ⌝ }
+    ensures { λ r. ⌜ Listed (peaksOnto (now (s .entry)) (now (pitch .entry)) b (spans (now (first .entry)) (now (last .entry)))
+        (now (peaks .entry))) (now (out .entry)) (now (out .exit)) r ⌝ }
 {
     let mut n: usize = 0;
     let mut i: usize = 0;

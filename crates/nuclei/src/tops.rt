@@ -1,28 +1,30 @@
 // The tops of voiced runs that hold no peak.
-use super::peaks::Bounds;
-use super::peaks::is_speech;
-use super::peaks::near_end;
-use super::peaks::near_start;
+use super::peaks::level_is_speech;
 use lists::marks::marks;
+use lists::sizes::larger;
+use lists::sizes::smaller;
+use region::Bounds;
 use runs::near::Found;
+use runs::near::near_end;
+use runs::near::near_start;
 use runs::near::run_of;
 use smooth::extrema::argmax_middle;
 ghost use mathlib.Core.Path.{_≡_};
 ghost use mathlib.Core.Bool.{true};
 ghost use mathlib.Core.List.{_++_};
-ghost use Prim.Native.Nat.{_+_, _-_, _≤_, _<_, min, max};
+ghost use Prim.Native.Nat.{_+_, _≤_, _<_};
 ghost use lib.ListN.{length, take};
 ghost use Rattle.lists.specs.Results.{Listed, Pushed};
-ghost use Rattle.runs.specs.Runs.{spans};
-ghost use Rattle.runs.specs.Near.{runOf};
-ghost use Rattle.nuclei.specs.Tops.{found, numberOf, runsHeld, unheldFrom, topOf, onFlank, standsAlone, hasTop, topsOf};
+ghost use Rattle.runs.specs.Runs.{spans, SpansLent};
+ghost use Rattle.runs.specs.Near.{found, numberOf};
+ghost use Rattle.nuclei.specs.Tops.{runsHeld, unheldFrom, topOf, onFlank, standsAlone, hasTop, topsOf};
 
-// Writes the number of the run that a frame belongs to at the count n, if it belongs to one, and returns the new count.
-fn push_run(first: &[u32], last: &[u32], at: u32, out: &mut [u32], n: usize) -> usize
-    requires { ⌜ (length (now first) ≡ length (now last)) × (length (now first) ≤ 2048) × (found (runOf (spans (now first) (now last)) at) ≡ true → n < length (now out)) ⌝ }
-    ensures { λ r. ⌜ Pushed (found (runOf (spans (now (first .entry)) (now (last .entry))) at)) (numberOf (runOf (spans (now (first .entry)) (now (last .entry))) at)) n (now (out .entry)) (now (out .exit)) r ⌝ }
+// Writes the number of the run that is found at the count n, if there is one, and returns the new count.
+fn push_number(run: Found, out: &mut [u32], n: usize) -> usize
+    requires { ⌜ (found run ≡ true → n < length (now out)) ⌝ }
+    ensures { λ r. ⌜ Pushed (found run) (numberOf run) n (now (out .entry)) (now (out .exit)) r ⌝ }
 {
-    let Found::At(k, _, _) = run_of(first, last, at) else {
+    let Found::At(k, _, _) = run else {
         return n;
     };
     out[n] = k;
@@ -31,13 +33,14 @@ fn push_run(first: &[u32], last: &[u32], at: u32, out: &mut [u32], n: usize) -> 
 
 // Writes the numbers of the runs that frames belong to, a frame at a time, and returns how many they are.
 pub fn runs_held(first: &[u32], last: &[u32], frames: &[u32], out: &mut [u32]) -> usize
-    requires { ⌜ (length (now first) ≡ length (now last)) × (length (now first) ≤ 2048) × (length (now frames) ≤ length (now out)) ⌝ }
-    ensures { λ r. ⌜ Listed (runsHeld (spans (now (first .entry)) (now (last .entry))) (now (frames .entry))) (now (out .entry)) (now (out .exit)) r ⌝ }
+    requires { ⌜ SpansLent (now first) (now last) × (length (now frames) ≤ length (now out)) ⌝ }
+    ensures { λ r. ⌜ Listed (runsHeld (spans (now (first .entry)) (now (last .entry))) (now (frames .entry))) (now (out .entry))
+        (now (out .exit)) r ⌝ }
 {
     let mut n: usize = 0;
     let mut i: usize = 0;
     while i < frames.len() {
-        n = push_run(first, last, frames[i], out, n);
+        n = push_number(run_of(first, last, frames[i]), out, n);
         i += 1;
     }
     n
@@ -65,25 +68,7 @@ fn stands_alone(s: &[f32], b: Bounds, dip: f32, at: u32) -> bool
     requires { ⌜ (at < length (now s)) × (b .end ≤ length (now s)) ⌝ }
     ensures { λ r. ⌜ r ≡ standsAlone (now (s .entry)) b dip at ⌝ }
 {
-    if is_speech(s, b, at) {
-        !on_flank(s, dip, at)
-    } else {
-        false
-    }
-}
-
-// The larger of two numbers.
-fn larger(a: usize, b: usize) -> usize
-    ensures { λ r. ⌜ r ≡ max a b ⌝ }
-{
-    if a < b { b } else { a }
-}
-
-// The smaller of two numbers.
-fn smaller(a: usize, b: usize) -> usize
-    ensures { λ r. ⌜ r ≡ min a b ⌝ }
-{
-    if a < b { a } else { b }
+    level_is_speech(s, b, at) && !on_flank(s, dip, at)
 }
 
 // Writes the top of the run first..=last at the count n, if it has one, and returns the new count. The top is where the
@@ -97,8 +82,10 @@ fn push_top(
     out: &mut [u32],
     n: usize,
 ) -> usize
-    requires { ⌜ (length (now s) ≤ 2048) × (b .end ≤ length (now s)) × (hasTop (now s) b dip (record { first = first; last = last }) ≡ true → n < length (now out)) ⌝ }
-    ensures { λ r. ⌜ Pushed (hasTop (now (s .entry)) b dip (record { first = first; last = last })) (topOf (now (s .entry)) b (record { first = first; last = last })) n (now (out .entry)) (now (out .exit)) r ⌝ }
+    requires { ⌜ (length (now s) ≤ 2048) × (b .end ≤ length (now s))
+        × (hasTop (now s) b dip (record { first = first; last = last }) ≡ true → n < length (now out)) ⌝ }
+    ensures { λ r. ⌜ Pushed (hasTop (now (s .entry)) b dip (record { first = first; last = last }))
+        (topOf (now (s .entry)) b (record { first = first; last = last })) n (now (out .entry)) (now (out .exit)) r ⌝ }
 {
     let lo = larger(first as usize, b.start);
     let hi = smaller(last as usize + 1, b.end);
@@ -125,8 +112,11 @@ pub fn run_tops(
     out: &mut [u32],
     c: usize,
 ) -> usize
-    requires { ⌜ (length (now s) ≤ 2048) × (b .end ≤ length (now s)) × (length (now first) ≡ length (now last)) × (length (now first) ≤ 2048) × (c + length (now first) ≤ length (now out)) ⌝ }
-    ensures { λ r. ⌜ Listed (take c (now (out .entry)) ++ topsOf (now (s .entry)) b dip (unheldFrom (now (held .entry)) 0 (spans (now (first .entry)) (now (last .entry))))) (now (out .entry)) (now (out .exit)) r ⌝ }
+    requires { ⌜ (length (now s) ≤ 2048) × (b .end ≤ length (now s)) × SpansLent (now first) (now last)
+        × (c + length (now first) ≤ length (now out)) ⌝ }
+    ensures { λ r. ⌜ Listed (take c (now (out .entry)) ++ topsOf (now (s .entry)) b dip
+        (unheldFrom (now (held .entry)) 0 (spans (now (first .entry)) (now (last .entry))))) (now (out .entry)) (now (out .exit))
+        r ⌝ }
 {
     let h = marks(held);
     let mut n = c;

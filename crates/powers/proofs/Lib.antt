@@ -3,4 +3,5 @@ pub mod LimbLaws
 pub mod UnitLaws
 pub mod Never
 pub mod Order
+pub mod Ranges
 pub mod Repaired

@@ -1,11 +1,13 @@
 -- What the comparisons of pitches mean, over exact values: a finite float is the fraction `num` / `den`. Definitions only.
-use Prim.Native.Nat.{ℕ, _*_, _^_, _≤_, min, max}
+use Prim.Native.Nat.{ℕ, _*_, _^_, min, max}
 use mathlib.Core.Path.{_≡_}
 use mathlib.Core.Bool.{Bool, false, _&&_, cond}
+use mathlib.Core.Logic.{_⊎_}
 use lib.IntN.{pos}
 use lib.Dec.{T, leb, ltb}
 use lib.Ieee.{Float, fin, le}
 use lib.Ieee.Positive.{num, den}
+use Rattle.floats.specs.Plain.{zeroF}
 use Rattle.powers.specs.declared.pitch.Octave.{Octave}
 use Rattle.powers.specs.declared.pitch.Octave.the-variants.{Keep, Halve, Double}
 use Rattle.powers.specs.declared.pitch.Pitch.{Pitch}
@@ -19,15 +21,13 @@ hz n = fin false n (pos 0)
 abbrev pub Between : ℕ → ℕ → Float → Type 0
 Between lo hi x = T (le (hz lo) x) × T (le x (hz hi))
 
--- the test of it
-abbrev pub between : ℕ → ℕ → Float → Bool
-between lo hi x = le (hz lo) x && le x (hz hi)
+-- x is +0.0, which is no pitch, or a pitch from lo to hi Hz
+abbrev pub PitchOrNone : ℕ → ℕ → Float → Type 0
+PitchOrNone lo hi x = (x ≡ zeroF) ⊎ Between lo hi x
 
--- r is x in units of 2 ^ -j Hz, from lo to hi Hz
-pub record InUnits (lo hi j : ℕ) (x : Float) (r : ℕ) : Type 0 where
-  pub value : r * den x ≡ num x * 2 ^ j
-  pub least : lo * 2 ^ j ≤ r
-  pub most : r ≤ hi * 2 ^ j
+-- the test of a range
+abbrev pub isBetween : ℕ → ℕ → Float → Bool
+isBetween lo hi x = le (hz lo) x && le x (hz hi)
 
 -- a break, 3 semitones or more: the larger of x and y to the 4th is at least twice the smaller to the 4th
 unfoldable pub breaksIn : ℕ → ℕ → Bool
@@ -39,7 +39,7 @@ breaksAt p q = breaksIn (num p * den q) (num q * den p)
 
 -- what an entry of a track stands for: a pitch from 20 to 4,000 Hz, or none
 abbrev pub pitchOf : Float → Pitch
-pitchOf x = cond (between 20 4000 x) (Hz x) Unvoiced
+pitchOf x = cond (isBetween 20 4000 x) (Hz x) Unvoiced
 
 -- a break between what two entries stand for; there is none where one is no pitch
 abbrev pub breaksBetween : Pitch → Pitch → Bool

@@ -1,34 +1,14 @@
--- Frames without a pitch one after another, and a stretch that has them at both ends. Assumes nothing.
-use Prim.Native.Nat.{ℕ, suc, _+_, _-_, _≤_, _<_, min}
+-- A stretch that has frames without a pitch at both ends. Assumes nothing.
+use Prim.Native.Nat.{ℕ, _+_, _-_, _≤_, _<_, min}
 use native.Mathlib.Omega.{arith}
-use native.Mathlib.Numerals.{add-one}
 use mathlib.Core.Path.{_≡_}
 use mathlib.Core.Bool.{true, false}
 use mathlib.Core.List.{List}
 use borrow.Author.Tests.{le-leb, lt-leb}
 use lib.Ieee.{Float}
-use Rattle.recover.specs.Estimates.{silent}
 use Rattle.recover.specs.Recovered.{quiet, island}
 
 module _ (given : List Float) where
-  pub quiet-on : (i b : ℕ) → i < b → silent given i ≡ true → quiet given (i + 1) (b - (i + 1)) ≡ quiet given i (b - i)
-  unfolding quiet
-  quiet-on i b h t =
-      let e : b - i ≡ suc (b - (i + 1)) = omega arith in
-      rw (e, t, add-one)
-
-  pub quiet-not : (i b : ℕ) → i < b → silent given i ≡ false → false ≡ quiet given i (b - i)
-  unfolding quiet
-  quiet-not i b h t =
-      let e : b - i ≡ suc (b - (i + 1)) = omega arith in
-      rw (e, t)
-
-  pub quiet-end : (i b : ℕ) → b ≤ i → true ≡ quiet given i (b - i)
-  unfolding quiet
-  quiet-end i b h =
-      let e : b - i ≡ 0 = omega arith in
-      rw e
-
   module _ (s e : ℕ) where
     pub island-short : e - s < 3 → false ≡ island given s e
     island-short h = rw (lt-leb 3 (e - s) h)

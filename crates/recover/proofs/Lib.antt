@@ -1,4 +1,3 @@
-pub mod Tabulated
 pub mod Reading
 pub mod Trying
 pub mod Alone

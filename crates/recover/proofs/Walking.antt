@@ -4,17 +4,21 @@ use native.Mathlib.Omega.{arith}
 use native.Mathlib.Numerals.{add-one}
 use native.Mathlib.Nat.{eq-or-lt-of-le}
 use mathlib.Core.Path.{_≡_, refl, sym, ap, ap₂, _∙_, subst}
-use mathlib.Core.Bool.{Bool, true, false, cond}
+use mathlib.Core.Bool.{Bool, true, false, not, cond, true≢false}
 use mathlib.Core.List.{List, map}
-use mathlib.Core.Logic.{_⊎_, ⊎-elim}
+use mathlib.Core.Logic.{⊎-elim}
+use borrow.Author.Tests.{not-true, not-false, leb-true, leb-false, ltb-true, ltb-false}
+use lib.Dec.{leb, ltb}
 use lib.Arith.{le-zero}
 use lib.ListN.{length, getD, List·getD-eq-default}
 use lib.Ieee.{Float, nan}
+use Rattle.floats.specs.Plain.{zeroF}
+use Rattle.lists.proofs.Walks.{First, first-is}
 use Rattle.nsdf.specs.declared.period.Estimate.{Estimate}
 use Rattle.nsdf.specs.declared.period.Estimate.the-variants.{Nothing, Hz}
 use Rattle.powers.specs.Pitch.{stepAt}
-use Rattle.recover.specs.Estimates.{none, readOf}
-use Rattle.recover.specs.Recovered.{near, joins, startOf, cutFrom, endOf, island, pitchOf, recoveredAt}
+use Rattle.recover.specs.Recovered.{near, joins, startOf, endOf, island, stored, recoveredAt}
+use Rattle.recover.specs.Held.{readOf}
 use Rattle.recover.proofs.Reading.{read-at}
 
 near-nothing : (e : Estimate) → near e Nothing ≡ false
@@ -39,64 +43,28 @@ module _ (es : List Estimate) where
       let e : suc i - 1 ≡ i = omega arith in
       rw e
 
-  -- ---- the cut after a frame
-  cut-least : (i k : ℕ) → i ≤ cutFrom es i k
-  unfolding cutFrom
-  cut-least i zero = omega arith
-  cut-least i (suc k) = go (joins es i) (cut-least (suc i) k)
-    where
-      go : (b : Bool) → suc i ≤ cutFrom es (suc i) k → i ≤ cond b (cutFrom es (suc i) k) i
-      go true h = omega arith
-      go false h = omega arith
-
-  cut-most : (i k : ℕ) → cutFrom es i k ≤ i + k
-  unfolding cutFrom
-  cut-most i zero = omega arith
-  cut-most i (suc k) = go (joins es i) (cut-most (suc i) k)
-    where
-      go : (b : Bool) → cutFrom es (suc i) k ≤ suc i + k → cond b (cutFrom es (suc i) k) i ≤ i + suc k
-      go true h = omega arith
-      go false h = omega arith
-
-  cut-cuts : (i k : ℕ) → length es ≤ i + k → joins es (cutFrom es i k) ≡ false
-  unfolding cutFrom
-  cut-cuts i zero h = joins-out i (omega arith)
-  cut-cuts i (suc k) h = go (joins es i) refl (cut-cuts (suc i) k (omega arith))
-    where
-      go : (b : Bool) → joins es i ≡ b → joins es (cutFrom es (suc i) k) ≡ false → joins es (cond b (cutFrom es (suc i) k) i) ≡ false
-      go true e h = h
-      go false e h = e
-
-  cut-step : (i : ℕ) → i < length es → cutFrom es i (length es - i) ≡ cond (joins es i) (cutFrom es (i + 1) (length es - (i + 1))) i
-  unfolding cutFrom
-  cut-step i h =
-      let e : length es - i ≡ suc (length es - (i + 1)) = omega arith in
-      rw (e, add-one)
-
-  pub cut-on : (i : ℕ) → i < length es → joins es i ≡ true → cutFrom es i (length es - i) ≡ endOf es i
-  cut-on i h e = cut-step i h ∙ ap (λ (b : Bool). cond b (endOf es i) i) e
-
-  pub cut-here : (i : ℕ) → i < length es → joins es i ≡ false → cutFrom es i (length es - i) ≡ i
-  cut-here i h e = cut-step i h ∙ ap (λ (b : Bool). cond b (endOf es i) i) e
-
-  pub cut-over : (i : ℕ) → length es ≤ i → cutFrom es i (length es - i) ≡ i
-  unfolding cutFrom
-  cut-over i h =
-      let e : length es - i ≡ 0 = omega arith in
-      rw e
-
   -- ---- the stretch of a frame
+  first-cut : (i : ℕ) → First (λ k. not (joins es k)) (i + 1) (length es - (i + 1)) (endOf es i)
+  first-cut i = first-is (λ k. not (joins es k)) (i + 1) (length es - (i + 1))
+
   pub end-above : (i : ℕ) → i < endOf es i
-  end-above i = omega (arith, cut-least (i + 1) (length es - (i + 1)))
+  end-above i = omega (arith, first-cut i .low)
 
   pub end-within : (i : ℕ) → i < length es → endOf es i ≤ length es
-  end-within i h = omega (arith, cut-most (i + 1) (length es - (i + 1)))
+  end-within i h = omega (arith, first-cut i .high)
+
+  goes-on : (i k : ℕ) → i < k → k < endOf es i → joins es k ≡ true
+  goes-on i k l h = not-false (joins es k) (first-cut i .before k (omega arith) h)
 
   pub end-cuts : (i : ℕ) → joins es (endOf es i) ≡ false
-  end-cuts i = cut-cuts (i + 1) (length es - (i + 1)) (omega arith)
+  end-cuts i = go (leb (length es) (endOf es i)) refl
+    where
+      go : (b : Bool) → leb (length es) (endOf es i) ≡ b → joins es (endOf es i) ≡ false
+      go true e = joins-out (endOf es i) (leb-true (length es) (endOf es i) e)
+      go false e = not-true (joins es (endOf es i)) (first-cut i .here (omega (arith, leb-false (length es) (endOf es i) e)))
 
-  pub end-here : (i : ℕ) → i < length es → joins es (i + 1) ≡ false → endOf es i ≡ i + 1
-  end-here i h e = ⊎-elim (λ q. cut-over (i + 1) (omega arith)) (λ l. cut-here (i + 1) (omega arith) e) (eq-or-lt-of-le h)
+  pub end-here : (i : ℕ) → joins es (i + 1) ≡ false → endOf es i ≡ i + 1
+  end-here i e = ⊎-elim (λ q. sym q) (λ l. absurd (true≢false (sym (goes-on i (i + 1) (omega arith) l) ∙ e))) (eq-or-lt-of-le (first-cut i .low))
 
   pub start-here : (i : ℕ) → joins es i ≡ false → startOf es i ≡ i
   unfolding startOf
@@ -108,30 +76,24 @@ module _ (es : List Estimate) where
   start-on i e = rw e
 
   -- every frame from a stretch's first to before its end has the same two
-  module _ (s : ℕ) (within : s < length es) (cut : joins es s ≡ false) where
-    Alike : ℕ → Type 0
-    Alike k = (startOf es k ≡ s) × (endOf es k ≡ endOf es s)
+  module _ (s : ℕ) (cut : joins es s ≡ false) where
+    starts-same : (k : ℕ) → s ≤ k → k < endOf es s → startOf es k ≡ s
+    unfolding startOf
+    starts-same zero l h = sym (le-zero l)
+    starts-same (suc k) l h =
+        ⊎-elim (λ q. subst (λ (j : ℕ). startOf es j ≡ s) q (start-here s cut)) (λ a. start-on k (goes-on s (suc k) a h) ∙ starts-same k (omega arith) (omega arith)) (eq-or-lt-of-le l)
 
-    alike : (k : ℕ) → s ≤ k → k < endOf es s → Alike k
-    unfolding Alike
-    alike zero l h = subst Alike (le-zero l) (start-here s cut, refl)
-    alike (suc k) l h = ⊎-elim (λ q. subst Alike q (start-here s cut, refl)) (λ a. go (joins es (suc k)) refl (alike k (omega arith) (omega arith))) (eq-or-lt-of-le l)
+    ends-same : (k : ℕ) → s ≤ k → k < endOf es s → endOf es k ≡ endOf es s
+    ends-same k l h = go (ltb (endOf es s) (endOf es k)) (ltb (endOf es k) (endOf es s)) refl refl
       where
-        go : (b : Bool) → joins es (suc k) ≡ b → Alike k → Alike (suc k)
-        go true e r =
-            let e′ : joins es (k + 1) ≡ true = rw add-one e in
-            let on : endOf es k ≡ endOf es (k + 1) = cut-on (k + 1) (omega (arith, end-within s within)) e′ in
-            (start-on k e ∙ r .0, ap (endOf es) (sym (add-one k)) ∙ sym on ∙ r .1)
-        go false e r =
-            let e′ : joins es (k + 1) ≡ false = rw add-one e in
-            absurd (omega (arith, end-here k (omega (arith, end-within s within)) e′, r .1))
+        go : (a b : Bool) → ltb (endOf es s) (endOf es k) ≡ a → ltb (endOf es k) (endOf es s) ≡ b → endOf es k ≡ endOf es s
+        go true b p q = absurd (true≢false (sym (goes-on k (endOf es s) h (ltb-true (endOf es s) (endOf es k) p)) ∙ end-cuts s))
+        go false true p q = absurd (true≢false (sym (goes-on s (endOf es k) (omega (arith, end-above k)) (ltb-true (endOf es k) (endOf es s) q)) ∙ end-cuts k))
+        go false false p q = omega (arith, ltb-false (endOf es s) (endOf es k) p, ltb-false (endOf es k) (endOf es s) q)
 
     pub inside-at : (given : List Float) (b : Bool) → island given s (endOf es s) ≡ b
-        → (k : ℕ) → s ≤ k → k < endOf es s → recoveredAt given es k ≡ cond b (pitchOf (getD es k Nothing)) (getD given k none)
-    unfolding Alike
-    inside-at given b q k l h =
-        let r : Alike k = alike k l h in
-        ap (λ (t : Bool). cond t (pitchOf (getD es k Nothing)) (getD given k none)) (ap₂ (island given) (r .0) (r .1) ∙ q)
+        → (k : ℕ) → s ≤ k → k < endOf es s → recoveredAt given es k ≡ cond b (stored (getD es k Nothing)) (getD given k zeroF)
+    inside-at given b q k l h = ap (λ (t : Bool). cond t (stored (getD es k Nothing)) (getD given k zeroF)) (ap₂ (island given) (starts-same k l h) (ends-same k l h) ∙ q)
 
 -- ---- two neighbours, from the numbers that hold their estimates
 module _ (xs : List Float) (i : ℕ) (above : 0 < i) (h : i < length xs) where

@@ -1,24 +1,20 @@
 -- A pitch estimate for each frame of a track that is tried. Definitions only.
-use Prim.Native.Nat.{ℕ, zero, suc, _*_}
+use Prim.Native.Nat.{ℕ, _*_}
 use mathlib.Core.Path.{_≡_}
-use mathlib.Core.Bool.{Bool, false, cond, _&&_}
-use mathlib.Core.List.{List, [], _∷_}
-use mathlib.Core.Logic.{_⊎_}
+use mathlib.Core.Bool.{Bool, cond, _&&_}
+use mathlib.Core.List.{List}
 use lib.Dec.{eqb}
-use lib.IntN.{pos}
 use lib.ListN.{length, getD}
-use lib.Ieee.{Float, fin, eq}
+use lib.Ieee.{Float, eq}
+use Rattle.floats.specs.Plain.{zeroF}
+use Rattle.lists.specs.Frames.{tabulate}
 use Rattle.nsdf.specs.declared.period.Estimate.{Estimate}
 use Rattle.nsdf.specs.declared.period.Estimate.the-variants.{Nothing, Hz}
 use Rattle.powers.specs.Pitch.{Between}
 
--- +0.0: no pitch
-abbrev pub none : Float
-none = fin false 0 (pos 0)
-
--- frame i has no pitch, as past the end of the track
+-- frame i has no pitch, which +0.0 says, as past the end of the track
 abbrev pub silent : List Float → ℕ → Bool
-silent pitch i = eq (getD pitch i none) none
+silent pitch i = eq (getD pitch i zeroF) zeroF
 
 -- frame i is without pitch, and its marks of speech and of a vowel are both 1; a mark that a list lacks reads as 0
 abbrev pub tried : List Float → List ℕ → List ℕ → ℕ → Bool
@@ -28,24 +24,10 @@ tried pitch speech vowel i = silent pitch i && (eqb (getD speech i 0) 1 && eqb (
 abbrev pub estimateAt : (ℕ → Estimate) → List Float → List ℕ → List ℕ → ℕ → Estimate
 estimateAt period pitch speech vowel i = cond (tried pitch speech vowel i) (period (160 * i)) Nothing
 
--- f at the n numbers from i on
-unfoldable pub tabulate : {A : Type 0} → (ℕ → A) → ℕ → ℕ → List A
-tabulate f i zero = []
-tabulate f i (suc n) = f i ∷ tabulate f (suc i) n
-
 -- the estimates, one a frame
 unfoldable pub estimates : (ℕ → Estimate) → List Float → List ℕ → List ℕ → List Estimate
-estimates period pitch speech vowel = tabulate (estimateAt period pitch speech vowel) 0 (length pitch)
+estimates period pitch speech vowel = tabulate (estimateAt period pitch speech vowel) (length pitch)
 
--- an estimate as a list of f64 holds it: 0 is none
-abbrev pub held : Estimate → Float
-held Nothing = none
-held (Hz x) = x
-
--- and the estimate that such a number stands for
-abbrev pub readOf : Float → Estimate
-readOf x = cond (eq x none) Nothing (Hz x)
-
--- x stands for no estimate, or for one that the step test takes
-abbrev pub Held : Float → Type 0
-Held x = (x ≡ none) ⊎ Between 60 600 x
+-- an estimate, if there is one, is from 60 to 600 Hz
+abbrev pub InRange : Estimate → Type 0
+InRange e = (x : Float) → e ≡ Hz x → Between 60 600 x

@@ -6,7 +6,8 @@ ghost use mathlib.Core.List.{map};
 ghost use Prim.Native.Nat.{_≤_, _<_};
 ghost use lib.ListN.{length, getD};
 ghost use Rattle.nsdf.specs.Period.{periodHz};
-ghost use Rattle.recover.specs.Estimates.{silent, estimateAt, estimates, held, readOf};
+ghost use Rattle.recover.specs.Estimates.{silent, tried, estimateAt, estimates};
+ghost use Rattle.recover.specs.Held.{held, readOf};
 
 // An estimate as a list holds it.
 fn held(e: Estimate) -> f64
@@ -48,17 +49,24 @@ pub fn is_silent(pitch: &[f32], i: usize) -> bool
     true
 }
 
-// The estimate of frame i, from the samples around sample 160 * i: none where the frame has a pitch, or is not both speech and vowel.
-fn estimate_at(pitch: &[f32], samples: &[i16], speech: &[u8], vowel: &[u8], i: usize) -> Estimate
-    requires { ⌜ i < 2048 ⌝ }
-    ensures { λ r. ⌜ r ≡ estimateAt (periodHz (now (samples .entry))) (now (pitch .entry)) (now (speech .entry)) (now (vowel .entry)) i ⌝ }
+// Whether frame i has no pitch and is both speech and vowel.
+fn is_tried(pitch: &[f32], speech: &[u8], vowel: &[u8], i: usize) -> bool
+    ensures { λ r. ⌜ r ≡ tried (now (pitch .entry)) (now (speech .entry)) (now (vowel .entry)) i ⌝ }
 {
     if is_silent(pitch, i) {
-        if mark(speech, i) == 1 {
-            if mark(vowel, i) == 1 {
-                return period_hz(samples, 160 * i);
-            }
-        }
+        return mark(speech, i) == 1 && mark(vowel, i) == 1;
+    }
+    false
+}
+
+// The estimate of frame i, from the samples around sample 160 * i: none where the frame is not tried.
+fn estimate_at(pitch: &[f32], samples: &[i16], speech: &[u8], vowel: &[u8], i: usize) -> Estimate
+    requires { ⌜ i < 2048 ⌝ }
+    ensures { λ r. ⌜ r ≡ estimateAt (periodHz (now (samples .entry))) (now (pitch .entry)) (now (speech .entry))
+        (now (vowel .entry)) i ⌝ }
+{
+    if is_tried(pitch, speech, vowel, i) {
+        return period_hz(samples, 160 * i);
     }
     Estimate::Nothing
 }
@@ -67,7 +75,8 @@ fn estimate_at(pitch: &[f32], samples: &[i16], speech: &[u8], vowel: &[u8], i: u
 pub fn estimates(pitch: &[f32], samples: &[i16], speech: &[u8], vowel: &[u8], out: &mut [f64])
     requires { ⌜ length (now pitch) ≤ 2048 ⌝ }
     requires { ⌜ length (now out) ≡ length (now pitch) ⌝ }
-    ensures { λ _. ⌜ now (out .exit) ≡ map held (estimates (periodHz (now (samples .entry))) (now (pitch .entry)) (now (speech .entry)) (now (vowel .entry))) ⌝ }
+    ensures { λ _. ⌜ now (out .exit) ≡ map held
+        (estimates (periodHz (now (samples .entry))) (now (pitch .entry)) (now (speech .entry)) (now (vowel .entry))) ⌝ }
 {
     let mut i = 0usize;
     while i < pitch.len() {

@@ -3,35 +3,18 @@
 pub mod estimates;
 pub mod stretches;
 
+use lists::blank::blank_track;
+use lists::results::copy;
 ghost use mathlib.Core.Path.{_≡_};
 ghost use Prim.Native.Nat.{_≤_};
 ghost use lib.ListN.{length};
 ghost use Rattle.recover.specs.Recovered.{recovered};
-
-// The pitches as given, which the recovery looks at while it writes.
-fn copy(track: &[f32], out: &mut [f32])
-    requires { ⌜ length (now out) ≡ length (now track) ⌝ }
-    ensures { λ _. ⌜ now (out .exit) ≡ now (track .entry) ⌝ }
-{
-    let mut i = 0usize;
-    while i < track.len() {
-        out[i] = track[i];
-        i += 1;
-    }
-}
 
 // Room for an estimate a frame.
 fn blank_estimates() -> [f64; 2048]
     ensures { λ r. ⌜ length r ≡ 2048 ⌝ }
 {
     [0.0f64; 2048]
-}
-
-// Room for a pitch a frame.
-fn blank_track() -> [f32; 2048]
-    ensures { λ r. ⌜ length r ≡ 2048 ⌝ }
-{
-    [0.0f32; 2048]
 }
 
 // As `recover_pitch`, with room for the estimates and for the pitches as given.
@@ -46,8 +29,10 @@ fn recover_in(
     requires { ⌜ length (now pitch) ≤ 2048 ⌝ }
     requires { ⌜ length (now found) ≡ length (now pitch) ⌝ }
     requires { ⌜ length (now given) ≡ length (now pitch) ⌝ }
-    ensures { λ _. ⌜ now (pitch .exit) ≡ recovered (now (pitch .entry)) (now (samples .entry)) (now (speech .entry)) (now (vowel .entry)) ⌝ }
+    ensures { λ _. ⌜ now (pitch .exit) ≡ recovered (now (pitch .entry)) (now (samples .entry)) (now (speech .entry))
+        (now (vowel .entry)) ⌝ }
 {
+    // The pitches as given, which the recovery looks at while it writes.
     copy(&pitch[..], given);
     estimates::estimates(&pitch[..], samples, speech, vowel, found);
     stretches::recover_stretches(&found[..], &given[..], pitch);
@@ -57,7 +42,8 @@ fn recover_in(
 // keep theirs. An empty track stays; without samples nothing is recovered.
 pub fn recover_pitch(pitch: &mut [f32], samples: &[i16], speech: &[u8], vowel: &[u8])
     requires { ⌜ length (now pitch) ≤ 2048 ⌝ }
-    ensures { λ _. ⌜ now (pitch .exit) ≡ recovered (now (pitch .entry)) (now (samples .entry)) (now (speech .entry)) (now (vowel .entry)) ⌝ }
+    ensures { λ _. ⌜ now (pitch .exit) ≡ recovered (now (pitch .entry)) (now (samples .entry)) (now (speech .entry))
+        (now (vowel .entry)) ⌝ }
 {
     let n = pitch.len();
     let mut found = blank_estimates();

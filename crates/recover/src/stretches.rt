@@ -7,14 +7,17 @@ ghost use mathlib.Core.Path.{_≡_};
 ghost use mathlib.Core.List.{map};
 ghost use Prim.Native.Nat.{_-_, _≤_, _<_};
 ghost use lib.ListN.{length};
+ghost use Rattle.floats.specs.Narrow.{narrow};
 ghost use Rattle.lists.specs.By.{Each};
-ghost use Rattle.recover.specs.Estimates.{readOf, Held};
-ghost use Rattle.recover.specs.Recovered.{joins, endOf, quiet, island, recoveredFrom, Stored};
+ghost use Rattle.lists.specs.Results.{replaced};
+ghost use Rattle.powers.specs.Pitch.{PitchOrNone};
+ghost use Rattle.recover.specs.Recovered.{joins, endOf, quiet, island, recoveredFrom};
+ghost use Rattle.recover.specs.Held.{readOf};
 
 // Whether frame i goes on with the stretch of the frame before it: not where one of the two has no estimate, nor where they are
 // more than 1.5 semitones apart.
 fn joins(estimates: &[f64], i: usize) -> bool
-    requires { ⌜ Each Held (now estimates) ⌝ }
+    requires { ⌜ Each (PitchOrNone 60 600) (now estimates) ⌝ }
     requires { ⌜ 0 < i ⌝ }
     requires { ⌜ i < length (now estimates) ⌝ }
     ensures { λ r. ⌜ r ≡ joins (map readOf (now (estimates .entry))) i ⌝ }
@@ -30,7 +33,7 @@ fn joins(estimates: &[f64], i: usize) -> bool
 
 // One past the last frame of the stretch that frame s is in. A frame with no estimate is one by itself.
 fn end_of(estimates: &[f64], s: usize) -> usize
-    requires { ⌜ Each Held (now estimates) ⌝ }
+    requires { ⌜ Each (PitchOrNone 60 600) (now estimates) ⌝ }
     requires { ⌜ s < length (now estimates) ⌝ }
     ensures { λ r. ⌜ r ≡ endOf (map readOf (now (estimates .entry))) s ⌝ }
 {
@@ -90,7 +93,7 @@ fn store(estimates: &[f64], s: usize, e: usize, pitch: &mut [f32])
     requires { ⌜ s ≤ e ⌝ }
     requires { ⌜ e ≤ length (now estimates) ⌝ }
     requires { ⌜ length (now pitch) ≡ length (now estimates) ⌝ }
-    ensures { λ _. ⌜ Stored (now (estimates .entry)) s e (now (pitch .entry)) (now (pitch .exit)) ⌝ }
+    ensures { λ _. ⌜ now (pitch .exit) ≡ replaced s e (map narrow (now (estimates .entry))) (now (pitch .entry)) ⌝ }
 {
     let mut i = s;
     while i < e {
@@ -101,7 +104,7 @@ fn store(estimates: &[f64], s: usize, e: usize, pitch: &mut [f32])
 
 // Stores every stretch that is recovered. Only pitches as given count against one: a neighbour that is stored here does not.
 pub fn recover_stretches(estimates: &[f64], given: &[f32], pitch: &mut [f32])
-    requires { ⌜ Each Held (now estimates) ⌝ }
+    requires { ⌜ Each (PitchOrNone 60 600) (now estimates) ⌝ }
     requires { ⌜ length (now estimates) ≡ length (now given) ⌝ }
     requires { ⌜ length (now given) ≤ 2048 ⌝ }
     requires { ⌜ now pitch ≡ now given ⌝ }

@@ -1,34 +1,26 @@
--- The floor by places in the total order: the values at the sorted places of a list are the list in order (`sorted-values`), so the 10th percentile needs only two
+-- The floor by places in the total order: the values at the sorted places of a list are the list in order, so the 10th percentile needs only two
 -- of the places (`tenth-is`, `floor-is`). Assumes nothing.
 use mathlib.Core.Path.{_≡_, refl, sym, ap, _∙_, subst}
 use mathlib.Core.Bool.{true, false}
-use mathlib.Core.List.{List, [], _∷_, map, map-id}
-use Prim.Native.Nat.{ℕ, zero, suc, _+_, _-_, _/_, _≤_, _<_}
-use native.Mathlib.Nat.{le-of-suc-le-suc, not-suc-le-zero}
+use mathlib.Core.List.{List, [], _∷_, map}
+use Prim.Native.Nat.{ℕ, _+_, _-_, _/_, _≤_, _<_}
 use native.Mathlib.Omega.{arith}
 use lib.Dec.{T}
 use lib.ListN.{length, drop, getD, length-map, List·getD-map}
 use lib.Ieee.{Float, nan, binary32, fits}
 use lib.Ieee.Scale.{finite}
 use Rattle.floats.specs.Total.{totalKey, valueOf, before}
-use Rattle.floats.proofs.Order.{value-back}
 use Rattle.lists.specs.Results.{filter}
-use Rattle.lists.specs.By.{Each, sortBy}
+use Rattle.lists.specs.By.{sortBy}
 use Rattle.lists.specs.Sorted.{sorted}
 use Rattle.lists.proofs.Entries.{each-kept}
 use Rattle.lists.proofs.Fill.{Filling, filter-step, filter-over}
-use Rattle.lists.proofs.Keys.{sorted-back}
+use Rattle.lists.proofs.Keys.{Held, sorted-values}
+use Rattle.lists.proofs.Parts.{getD-any}
 use Rattle.lists.proofs.Ordered.{length-sort}
 use Rattle.region.specs.declared.Floor.the-variants.{Nothing, At}
 use Rattle.region.specs.Percentile.{rankOf, interpolated, tenthOf, floorIn, floorOf}
 use Rattle.region.proofs.Rank.{whole-part}
-
--- each entry is an f32
-abbrev pub Held : List Float → Type 0
-Held = Each (λ x. T (fits binary32 x))
-
-pub sorted-values : (l : List Float) → Held l → map valueOf (sorted (map totalKey l)) ≡ sortBy before l
-sorted-values l h = sorted-back before (λ x. T (fits binary32 x)) totalKey (λ x y p q. refl) valueOf (λ x. x) value-back l h ∙ map-id (sortBy before l)
 
 -- ---- the places of the finite entries, one after the other
 abbrev pub keysFrom : List Float → ℕ → List ℕ
@@ -45,14 +37,9 @@ module _ {whole out₀ out : List ℕ} {n : ℕ} (db : List Float) (i : ℕ) whe
   key-end h f = rw (filter-over finite db i h) at f
 
 -- ---- two places of the sorted ones
-any-default : {A : Type 0} (l : List A) (i : ℕ) (d e : A) → i < length l → getD l i d ≡ getD l i e
-any-default [] i d e h = absurd (not-suc-le-zero h)
-any-default (x ∷ l) zero d e h = refl
-any-default (x ∷ l) (suc i) d e h = any-default l i d e (le-of-suc-le-suc h)
-
 pub value-at : (keys : List ℕ) (i : ℕ) → i < length keys → valueOf (getD keys i 0) ≡ getD (map valueOf keys) i nan
 value-at keys i h =
-    sym (List·getD-map valueOf keys i 0) ∙ any-default (map valueOf keys) i (valueOf 0) nan (subst (λ (n : ℕ). i < n) (sym (length-map keys valueOf)) h)
+    sym (List·getD-map valueOf keys i 0) ∙ getD-any (map valueOf keys) i (valueOf 0) nan (subst (λ (n : ℕ). i < n) (sym (length-map keys valueOf)) h)
 
 pub tenth-is : (s : List Float) (n : ℕ) → length s ≡ n → n ≤ 2048 → interpolated s (rankOf n) ((n - 1) / 10) ≡ tenthOf s
 unfolding tenthOf

@@ -6,15 +6,16 @@ use Prim.Native.Nat.{ℕ, _+_, _-_, _≤_, _<_}
 use native.Mathlib.Omega.{arith}
 use borrow.Author.Tests.{le-leb, lt-leb, leb-true}
 use lib.Dec.{leb}
-use lib.ListN.{length, getD, List·getD-map}
+use lib.ListN.{length, getD}
 use lib.Ieee.{Float, nan, lt}
 use lib.Ieee.Scale.{finite}
 use Rattle.lists.specs.By.{Each}
 use Rattle.lists.specs.Sorted.{StrictlyRises}
 use Rattle.lists.proofs.Tests.{and-cases}
+use Rattle.lists.proofs.Entries.{each-at}
 use Rattle.lists.proofs.Members.{each-keep, keep-rises}
 use Rattle.region.specs.declared.Region.the-variants.{Nowhere, Span}
-use Rattle.region.specs.Speech.{speech, speechAt, speechFrames, mark, speechMarks, lastOf, regionIn}
+use Rattle.region.specs.Speech.{speech, speechAt, speechFrames, lastOf, regionIn}
 
 -- ---- speech
 pub speech-finite : (t d : Float) → speech t d ≡ true → finite d ≡ true
@@ -23,28 +24,21 @@ speech-finite t d e = and-cases (finite d) (lt t d) e .0
 pub speech-above : (t d : Float) → speech t d ≡ true → lt t d ≡ true
 speech-above t d e = and-cases (finite d) (lt t d) e .1
 
-pub mark-at : (t : Float) (db : List Float) (i : ℕ) → getD (speechMarks t db) i 0 ≡ cond (speechAt t db i) 1 0
-mark-at t db i = List·getD-map (mark t) db i nan
-
 -- ---- the first and the last of some frames
-first-has : (P : ℕ → Type 0) (l : List ℕ) → 0 < length l → Each P l → P (getD l 0 0)
-first-has P [] h e = absurd (omega arith)
-first-has P (x ∷ l) h e = e .0
-
 last-has : (P : ℕ → Type 0) (z : ℕ) (l : List ℕ) → 0 < length l → Each P l → P (lastOf z l)
 last-has P z [] h e = absurd (omega arith)
 last-has P z (x ∷ []) h e = e .0
 last-has P z (x ∷ y ∷ l) h e = last-has P x (y ∷ l) (omega arith) (e .1)
 
-apart : (lo hi z : ℕ) (l : List ℕ) → StrictlyRises lo hi l → 0 < length l → lo + length l ≤ lastOf z l + 1
-apart lo hi z [] s h = absurd (omega arith)
-apart lo hi z (x ∷ []) s h = omega (arith, s .0)
-apart lo hi z (x ∷ y ∷ l) s h = omega (arith, s .0, apart (x + 1) hi x (y ∷ l) (s .2) (omega arith))
+spread-from : (lo hi z : ℕ) (l : List ℕ) → StrictlyRises lo hi l → 0 < length l → lo + length l ≤ lastOf z l + 1
+spread-from lo hi z [] s h = absurd (omega arith)
+spread-from lo hi z (x ∷ []) s h = omega (arith, s .0)
+spread-from lo hi z (x ∷ y ∷ l) s h = omega (arith, s .0, spread-from (x + 1) hi x (y ∷ l) (s .2) (omega arith))
 
 spread : (lo hi : ℕ) (l : List ℕ) → StrictlyRises lo hi l → 0 < length l → getD l 0 0 + length l ≤ lastOf 0 l + 1
 spread lo hi [] s h = absurd (omega arith)
 spread lo hi (x ∷ []) s h = omega arith
-spread lo hi (x ∷ y ∷ l) s h = omega (arith, apart (x + 1) hi x (y ∷ l) (s .2) (omega arith))
+spread lo hi (x ∷ y ∷ l) s h = omega (arith, spread-from (x + 1) hi x (y ∷ l) (s .2) (omega arith))
 
 -- ---- the region of a list of frames
 pub few : (l : List ℕ) → length l < 5 → Nowhere ≡ regionIn l
@@ -89,7 +83,7 @@ module _ (t : Float) (db : List Float) where
     region-within = omega (arith, found (speechFrames t db) a b e, last-within some)
 
     pub region-first : speech t (getD db a nan) ≡ true
-    region-first = subst (λ (i : ℕ). speechAt t db i ≡ true) (sym (found (speechFrames t db) a b e .first)) (first-has _ (speechFrames t db) some frames-have .2)
+    region-first = subst (λ (i : ℕ). speechAt t db i ≡ true) (sym (found (speechFrames t db) a b e .first)) (each-at _ (speechFrames t db) 0 frames-have 0 some .2)
 
     pub region-last : speech t (getD db (b - 1) nan) ≡ true
     region-last =

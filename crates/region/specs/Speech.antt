@@ -2,7 +2,7 @@
 use Prim.Native.Nat.{ℕ, _+_}
 use mathlib.Core.Bool.{Bool, false, cond, _&&_}
 use mathlib.Core.List.{List, [], _∷_, map}
-use lib.Dec.{leb}
+use lib.Dec.{leb, eqb}
 use lib.ListN.{length, getD}
 use lib.Ieee.{Float, nan, inf, binary32, add, lt}
 use lib.Ieee.Scale.{finite}
@@ -12,6 +12,7 @@ use Rattle.region.specs.declared.Floor.the-variants.{Nothing, At}
 use Rattle.region.specs.declared.Region.{Region}
 use Rattle.region.specs.declared.Region.the-variants.{Nowhere, Span}
 use Rattle.region.specs.declared.Settings.{Settings}
+use Rattle.region.specs.declared.Bounds.{Bounds}
 use Rattle.region.specs.Percentile.{floorOf}
 
 -- floor + margin in f32; +infinity where there is no floor, so that there is no speech
@@ -22,6 +23,10 @@ thresholdOver (At x) margin = add binary32 x margin
 -- of a track, under the settings
 abbrev pub thresholdOf : List Float → Settings → Float
 thresholdOf db p = thresholdOver (floorOf db) (p .margin)
+
+-- the region start .. end, with the threshold over a floor
+abbrev pub boundsOver : Float → Settings → ℕ → ℕ → Bounds
+boundsOver floor p start end = record { threshold = thresholdOver (At floor) (p .margin); start = start; end = end }
 
 -- finite and strictly above the threshold
 abbrev pub speech : Float → Float → Bool
@@ -42,6 +47,10 @@ mark t d = cond (speech t d) 1 0
 -- the mark of each frame
 abbrev pub speechMarks : Float → List Float → List ℕ
 speechMarks t db = map (mark t) db
+
+-- frame i has its mark
+abbrev pub marked : List ℕ → ℕ → Bool
+marked m i = eqb (getD m i 0) 1
 
 -- the marks of a track, under the settings
 abbrev pub marksOf : List Float → Settings → List ℕ

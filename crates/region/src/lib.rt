@@ -10,7 +10,7 @@ ghost use Rattle.lists.specs.Results.{overlay, Listed, filter};
 ghost use Rattle.lists.specs.Sorted.{sorted};
 ghost use Rattle.region.specs.Defaults.{defaults};
 ghost use Rattle.region.specs.Percentile.{tenthOf, floorOf};
-ghost use Rattle.region.specs.Speech.{thresholdOver, thresholdOf, speech, mark, speechMarks, marksOf, speechFrames, lastOf, regionIn, regionOf};
+ghost use Rattle.region.specs.Speech.{thresholdOver, thresholdOf, boundsOver, speech, mark, speechMarks, marksOf, speechFrames, lastOf, regionIn, regionOf};
 
 // Fewer speech frames than this make no region: a click, or silence.
 const MIN_SPEECH_FRAMES: u32 = 5;
@@ -47,6 +47,13 @@ pub enum Region {
     Span(u32, u32),
 }
 
+// Where nuclei, extras and boundaries are looked for: in the region start..end, over the speech threshold.
+pub struct Bounds {
+    pub threshold: f32,
+    pub start: usize,
+    pub end: usize,
+}
+
 // Writes where each finite dB stands in the total order to the front of keys, by frames, and returns how many they are.
 fn finite_keys(db: &[f32], keys: &mut [u32]) -> usize
     requires { ⌜ length (now db) ≤ length (now keys) ⌝ }
@@ -59,10 +66,8 @@ fn finite_keys(db: &[f32], keys: &mut [u32]) -> usize
         if floats::plain::is_finite(d) {
             keys[n] = floats::total::total_key(d);
             n += 1;
-            i += 1;
-        } else {
-            i += 1;
         }
+        i += 1;
     }
     n
 }
@@ -120,6 +125,17 @@ pub fn threshold_over(floor: Floor, margin: f32) -> f32
     }
 }
 
+// The region start..end, with the threshold over a floor.
+pub fn bounds_over(floor: f32, p: Settings, start: usize, end: usize) -> Bounds
+    ensures { λ r. ⌜ r ≡ boundsOver floor p start end ⌝ }
+{
+    Bounds {
+        threshold: floor + p.margin,
+        start: start,
+        end: end,
+    }
+}
+
 // The speech threshold of a track.
 pub fn speech_threshold(db: &[f32], p: Settings) -> f32
     requires { ⌜ length (now db) ≤ 2048 ⌝ }
@@ -133,10 +149,7 @@ pub fn speech_threshold(db: &[f32], p: Settings) -> f32
 pub fn is_speech(threshold: f32, d: f32) -> bool
     ensures { λ r. ⌜ r ≡ speech threshold d ⌝ }
 {
-    if threshold < d {
-        return d < f32::from_bits(0x7f80_0000);
-    }
-    false
+    threshold < d && d < f32::from_bits(0x7f80_0000)
 }
 
 // The mark of a frame: 1 where it is speech, else 0.

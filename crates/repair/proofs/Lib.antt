@@ -2,7 +2,6 @@ pub mod Inserting
 pub mod Places
 pub mod Middles
 pub mod Near
-pub mod Counting
 pub mod Sizes
 pub mod Track
 pub mod Runs

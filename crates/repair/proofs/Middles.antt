@@ -8,31 +8,23 @@ use lib.ListN.{length, getD, take, length-map, List·getD-map}
 use lib.Seq.{getD-take}
 use lib.Ieee.{Float, nan, binary32, fits, ofBits}
 use lib.Ieee.Bits.{ofBits-fits}
-use lib.Ieee.Positive.{between, le-trans-positive}
 use lib.Ieee.{le}
 use Rattle.floats.specs.Total.{totalKey, valueOf, unplaced, before}
-use Rattle.floats.proofs.Order.{value-back}
 use Rattle.lists.specs.By.{Each, sortBy}
 use Rattle.lists.specs.Sorted.{IsSorted, sorted}
 use Rattle.lists.proofs.Entries.{each-map, each-at, each-of-map}
 use Rattle.lists.proofs.Ordered.{each-sort, length-sort}
 use Rattle.lists.proofs.Sorting.{sorted-only}
-use Rattle.lists.proofs.Keys.{sorted-back}
+use Rattle.lists.proofs.Keys.{sorted-values}
 use Rattle.powers.specs.Pitch.{hz, Between, octaveAt}
+use Rattle.powers.proofs.Ranges.{enclosed}
 use Rattle.repair.specs.Repair.{shifted, beside}
 use Rattle.repair.specs.Places.{PitchPlace}
 
 -- a pitch for the repair is a pitch
 pub wider : (f : Float) → Between 40 2000 f → Between 20 4000 f
 unfolding le
-wider f h =
-    let p = between (hz 40) f (hz 2000) tt tt (h .0) (h .1) in
-    (le-trans-positive (hz 20) (hz 40) f tt tt p tt (h .0), le-trans-positive f (hz 2000) (hz 4000) p tt tt (h .1) tt)
-
-module _ {A : Type 0} where
-  map-same : (l : List A) → map (λ (x : A). x) l ≡ l
-  map-same [] = refl
-  map-same (x ∷ l) = ap (λ (r : List A). x ∷ r) (map-same l)
+wider f h = enclosed 20 4000 (hz 40) f (hz 2000) tt tt tt tt tt tt (h .0) (h .1)
 
 places-back : (ks : List ℕ) → Each PitchPlace ks → map totalKey (map valueOf ks) ≡ ks
 places-back [] h = refl
@@ -40,9 +32,7 @@ places-back (k ∷ ks) h = ap₂ (λ (a : ℕ) (l : List ℕ). a ∷ l) (h .0 .0
 
 sorted-places : (ks : List ℕ) → Each PitchPlace ks → sortBy before (map valueOf ks) ≡ map valueOf (sorted ks)
 sorted-places ks h =
-    sym (map-same (sortBy before (map valueOf ks)))
-    ∙ sym (sorted-back before (λ x. T (fits binary32 x)) totalKey (λ x y p q. refl) valueOf (λ (x : Float). x) value-back (map valueOf ks)
-    (each-of-map (λ x. T (fits binary32 x)) valueOf ks (each-map PitchPlace (λ k. T (fits binary32 (valueOf k))) (λ k p. ofBits-fits binary32 (unplaced k)) ks h)))
+    sym (sorted-values (map valueOf ks) (each-of-map (λ x. T (fits binary32 x)) valueOf ks (each-map PitchPlace (λ k. T (fits binary32 (valueOf k))) (λ k p. ofBits-fits binary32 (unplaced k)) ks h)))
     ∙ ap (λ (l : List ℕ). map valueOf (sorted l)) (places-back ks h)
 
 -- the values at the sorted places

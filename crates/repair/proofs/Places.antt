@@ -1,7 +1,7 @@
 -- The neighbours of a frame are found by its place in the run, which rises strictly (`neighbours-at`): they are two parts of the run, and these two in order are
 -- the neighbours in order (`around-sorted`). As many of these two pass a test as of the neighbours (`around-count`). Assumes nothing.
 use Prim.Native.Nat.{ℕ, zero, suc, _+_, _-_, _≤_, _<_, min}
-use native.Mathlib.Nat.{zero-add, sub-zero}
+use native.Mathlib.Nat.{zero-add}
 use native.Mathlib.Numerals.{add-one}
 use native.Mathlib.Omega.{arith}
 use mathlib.Core.Path.{_≡_, refl, sym, ap, ap₂, _∙_, subst}
@@ -9,16 +9,17 @@ use mathlib.Core.Bool.{Bool, true, false}
 use mathlib.Core.List.{List, [], _∷_, _++_}
 use lib.Dec.{leb, ltb, eqb}
 use lib.ListN.{length, getD, take, drop, length-append, length-drop}
-use lib.Seq.{length-take-le, take-all, take-nil}
+use lib.Seq.{length-take-le, take-all}
 use borrow.Author.Tests.{lt-ltb, le-ltb, leb-true, leb-false}
 use Rattle.lists.specs.Results.{filter}
 use Rattle.lists.specs.By.{Each, countIf}
 use Rattle.lists.specs.Sorted.{count, IsSorted, StrictlyRises}
 use Rattle.lists.proofs.Entries.{each-map, each-append, each-at}
+use Rattle.lists.proofs.Parts.{drop-take, each-take, each-drop}
 use Rattle.lists.proofs.Members.{strict-each}
 use Rattle.repair.specs.Repair.{lastOf, neighbours}
 use Rattle.repair.specs.Places.{around}
-use Rattle.repair.proofs.Counting.{count-append}
+use Rattle.lists.proofs.Counting.{count-append}
 
 -- all or none of a list passes
 module _ {A : Type 0} (p : A → Bool) where
@@ -31,10 +32,6 @@ module _ {A : Type 0} (p : A → Bool) where
   unfolding filter
   filter-none [] h = refl
   filter-none (x ∷ l) h = rw (h .0, filter-none l (h .1))
-
--- an entry of a list that rises below hi is below hi
-pub strict-get : (lo hi : ℕ) (xs : List ℕ) (i : ℕ) → i < length xs → StrictlyRises lo hi xs → getD xs i 0 < hi
-strict-get lo hi xs i h s = each-at (λ x. (lo ≤ x) × (x < hi)) xs 0 (strict-each lo hi xs s) i h .1
 
 -- ---- the frames before and after the one at place p
 module _ (hi : ℕ) where
@@ -62,27 +59,9 @@ module _ (hi : ℕ) where
       ap₂ (λ (a b : List ℕ). lastOf 5 a ++ take 5 b) (before-place lo run p h s) (after-place lo run p h s ∙ ap (λ (k : ℕ). drop k run) (sym (add-one p)))
 
 -- ---- what each entry has, the neighbours of a place have
-each-take : {A : Type 0} (P : A → Type 0) (n : ℕ) (l : List A) → Each P l → Each P (take n l)
-each-take P zero l e = tt
-each-take P (suc n) [] e = tt
-each-take P (suc n) (x ∷ l) e = (e .0, each-take P n l (e .1))
-
-each-drop : {A : Type 0} (P : A → Type 0) (n : ℕ) (l : List A) → Each P l → Each P (drop n l)
-each-drop P zero l e = e
-each-drop P (suc n) [] e = tt
-each-drop P (suc n) (x ∷ l) e = each-drop P n l (e .1)
-
 pub each-around : {A : Type 0} (P : A → Type 0) (l : List A) (p : ℕ) → Each P l → Each P (around l p)
 each-around P l p e =
     each-append P (lastOf 5 (take p l)) (take 5 (drop (p + 1) l)) (each-drop P (length (take p l) - 5) (take p l) (each-take P p l e)) (each-take P 5 (drop (p + 1) l) (each-drop P (p + 1) l e))
-
-drop-take : {A : Type 0} (i n : ℕ) (l : List A) → i ≤ n → drop i (take n l) ≡ take (n - i) (drop i l)
-drop-take zero n l h = ap (λ (k : ℕ). take k l) (sym (sub-zero n))
-drop-take (suc i) zero l h = absurd (omega arith)
-drop-take (suc i) (suc n) [] h = sym (take-nil (suc n - suc i))
-drop-take (suc i) (suc n) (x ∷ l) h =
-    let e : n - i ≡ suc n - suc i = omega arith in
-    drop-take i n l (omega arith) ∙ ap (λ (k : ℕ). take k (drop i l)) e
 
 -- a list whose front was sorted before
 sorted-again : {l s r : List ℕ} (t : List ℕ) → IsSorted l s → IsSorted (s ++ t) r → IsSorted (l ++ t) r
@@ -108,7 +87,7 @@ module _ (keys : List ℕ) (p from end : ℕ) (h : p < length keys) (f : from �
   front-is : front ≡ lastOf 5 (take p keys)
   front-is =
       let l : length (take p keys) - 5 ≡ from = omega (arith, length-take-le p keys (omega arith)) in
-      sym (ap (λ (k : ℕ). drop k (take p keys)) l ∙ drop-take from p keys (omega arith))
+      sym (ap (λ (k : ℕ). drop k (take p keys)) l ∙ drop-take from p keys)
 
   back-is : back ≡ take 5 (drop (p + 1) keys)
   back-is = go (leb (p + 6) (length keys)) refl

@@ -1,27 +1,28 @@
 -- What repair promises of a track whose pitches are from 40 to 2,000 Hz: as many frames (`length-repaired`, in Runs), the same voiced
 -- frames (`repaired-voiced`, `repaired-frames`), and pitches from 20 to 4,000 Hz (`repaired-pitches`). Assumes nothing.
-use Prim.Native.Nat.{ℕ, zero, suc, _+_, _-_, _≤_, _<_}
+use Prim.Native.Nat.{ℕ, _+_, _-_, _≤_, _<_}
 use native.Mathlib.Omega.{arith}
-use mathlib.Core.Path.{_≡_, refl, sym, ap, ap₂, _∙_, subst}
+use mathlib.Core.Path.{_≡_, refl, sym, ap, _∙_, subst, fun-ext}
 use mathlib.Core.Bool.{Bool, true, false, not, cond}
 use mathlib.Core.List.{List, [], _∷_}
 use mathlib.Core.Logic.{_⊎_, inl, inr, ⊎-elim}
 use lib.Dec.{T, ltb}
-use lib.ListN.{length, getD, List·getD-eq-default}
+use lib.ListN.{length, List·getD-eq-default}
 use lib.Ieee.{Float, nan, binary32, ne, eq}
 use lib.Ieee.Positive.{positive, between}
 use borrow.Author.Tests.{ltb-true, ltb-false}
 use Rattle.floats.proofs.Zeros.{zero-bits, positive-not-zero}
-use Rattle.lists.specs.Results.{keep, consIf}
+use Rattle.lists.specs.Results.{keep}
 use Rattle.lists.specs.Marks.{member}
 use Rattle.lists.proofs.Entries.{each-at, at-each}
 use Rattle.lists.proofs.Members.{each-keep, each-member}
-use Rattle.powers.specs.Pitch.{hz, Between, octaveAt}
+use Rattle.powers.specs.Pitch.{hz, Between, PitchOrNone, octaveAt}
 use Rattle.powers.specs.declared.pitch.Octave.{Octave}
 use Rattle.powers.specs.declared.pitch.Octave.the-variants.{Keep, Halve, Double}
 use Rattle.powers.proofs.Repaired.{halved-admitted, doubled-admitted}
 use Rattle.runs.specs.Runs.{none, voiced, voicedFrames, Span, longRuns}
-use Rattle.repair.specs.Repair.{Pitches, pitchAt, framesIn, lowerMiddle, upperMiddle, shifted, beside, repairedIn, repairedAmong, repaired}
+use Rattle.lists.specs.Frames.{at}
+use Rattle.repair.specs.Repair.{Pitches, framesIn, lowerMiddle, upperMiddle, shifted, beside, repairedIn, repairedAmong, repaired}
 use Rattle.repair.proofs.Middles.{wider}
 use Rattle.repair.proofs.Runs.{pitched-at, length-repaired, repaired-at}
 
@@ -40,15 +41,10 @@ beside-pitch : (f : Float) (values : List Float) → Between 40 2000 f → Betwe
 unfolding beside
 beside-pitch f values h = shifted-pitch (octaveAt f (lowerMiddle values) (upperMiddle values)) f h
 
-keep-same : (s t : ℕ → Bool) → ((i : ℕ) → s i ≡ t i) → (i k : ℕ) → keep s i k ≡ keep t i k
-unfolding keep
-keep-same s t f i zero = refl
-keep-same s t f i (suc k) = ap₂ (λ (b : Bool) (l : List ℕ). consIf b i l) (f i) (keep-same s t f (suc i) k)
-
 module _ (pitch : List Float) (a : Pitches 40 2000 pitch) where
   -- a frame keeps its pitch, or has one and gets one
   abbrev Kept : Float → ℕ → Type 0
-  Kept v i = (v ≡ pitchAt pitch i) ⊎ ((voiced pitch i ≡ true) × Between 20 4000 v)
+  Kept v i = (v ≡ at pitch i) ⊎ ((voiced pitch i ≡ true) × Between 20 4000 v)
 
   kept-among : (rs : List Span) (i : ℕ) → i < length pitch → Kept (repairedAmong pitch rs i) i
   unfolding repairedAmong framesIn
@@ -58,18 +54,18 @@ module _ (pitch : List Float) (a : Pitches 40 2000 pitch) where
       go : (b : Bool) → member (framesIn pitch r) i ≡ b → Kept (repairedAmong pitch rs i) i → Kept (cond b (repairedIn pitch (framesIn pitch r) i) (repairedAmong pitch rs i)) i
       go true e k =
           let v = each-member (λ j. (r .first ≤ j) × (j < r .first + (r .last + 1 - r .first)) × (voiced pitch j ≡ true)) (framesIn pitch r) i (each-keep (voiced pitch) (r .first) (r .last + 1 - r .first)) e .2 in
-          inr (v, beside-pitch (pitchAt pitch i) _ (pitched-at 40 2000 pitch a i h v))
+          inr (v, beside-pitch (at pitch i) _ (pitched-at 40 2000 pitch a i h v))
       go false e k = k
 
   pub repaired-pitches : Pitches 20 4000 (repaired pitch)
-  repaired-pitches = at-each (λ p. (p ≡ none) ⊎ Between 20 4000 p) (repaired pitch) nan at
+  repaired-pitches = at-each (PitchOrNone 20 4000) (repaired pitch) nan each
     where
-      at : (i : ℕ) → i < length (repaired pitch) → (getD (repaired pitch) i nan ≡ none) ⊎ Between 20 4000 (getD (repaired pitch) i nan)
-      at i h =
+      each : (i : ℕ) → i < length (repaired pitch) → PitchOrNone 20 4000 (at (repaired pitch) i)
+      each i h =
           let l : i < length pitch = omega (arith, length-repaired pitch) in
           let e = repaired-at pitch i l in
           ⊎-elim
-          (λ k. ⊎-elim (λ n. inl (e ∙ k ∙ n)) (λ b. inr (subst (Between 20 4000) (sym (e ∙ k)) (wider (pitchAt pitch i) b))) (each-at (λ p. (p ≡ none) ⊎ Between 40 2000 p) pitch nan a i l))
+          (λ k. ⊎-elim (λ n. inl (e ∙ k ∙ n)) (λ b. inr (subst (Between 20 4000) (sym (e ∙ k)) (wider (at pitch i) b))) (each-at (PitchOrNone 40 2000) pitch nan a i l))
           (λ k. inr (subst (Between 20 4000) (sym e) (k .1)))
           (kept-among (longRuns pitch) i l)
 
@@ -92,7 +88,4 @@ module _ (pitch : List Float) (a : Pitches 40 2000 pitch) where
 
   pub repaired-frames : voicedFrames (repaired pitch) ≡ voicedFrames pitch
   unfolding voicedFrames
-  repaired-frames = ap (keep (voiced (repaired pitch)) 0) (length-repaired pitch) ∙ same 0 (length pitch)
-    where
-      same : (i k : ℕ) → keep (voiced (repaired pitch)) i k ≡ keep (voiced pitch) i k
-      same i k = keep-same (voiced (repaired pitch)) (voiced pitch) repaired-voiced i k
+  repaired-frames = ap (keep (voiced (repaired pitch)) 0) (length-repaired pitch) ∙ ap (λ (t : ℕ → Bool). keep t 0 (length pitch)) (fun-ext repaired-voiced)

@@ -1,41 +1,43 @@
 -- What a run hands to the repair of its frames (`gathered`), and the runs one after the other (`runs-turn`), whose repairs make the repaired track (`whole`).
 -- Assumes nothing.
 use Prim.Native.Nat.{ℕ, zero, suc, _+_, _-_, _≤_, _<_}
-use native.Mathlib.Nat.{zero-add, add-zero}
+use native.Mathlib.Nat.{zero-add}
 use native.Mathlib.Omega.{arith}
 use mathlib.Core.Path.{_≡_, refl, sym, ap, _∙_, subst}
 use mathlib.Core.Bool.{true, true≢false}
 use mathlib.Core.List.{List, [], _∷_, map}
-use mathlib.Core.Logic.{_⊎_, ⊎-elim}
-use lib.ListN.{length, getD, length-map}
+use mathlib.Core.Logic.{⊎-elim}
+use lib.ListN.{length, getD}
 use lib.Seq.{ext-getD}
 use lib.Ieee.{Float, nan, ofBits, ne}
 use Rattle.lists.specs.Results.{keep}
 use Rattle.lists.specs.By.{Each}
 use Rattle.lists.specs.Sorted.{StrictlyRises}
 use Rattle.lists.proofs.Entries.{each-map, each-at}
+use Rattle.lists.proofs.Tabulated.{length-tabulate, tabulate-at}
 use Rattle.lists.proofs.Members.{each-keep, keep-rises, strict-from}
-use Rattle.powers.specs.Pitch.{Between}
+use Rattle.powers.specs.Pitch.{Between, PitchOrNone}
 use Rattle.runs.specs.Runs.{none, voiced, voicedFrames, Span, spans, longRuns, Spaced}
 use Rattle.runs.proofs.Spacing.{long-spaced}
 use Rattle.runs.proofs.Spans.{runAt, spansFrom, spans-step, spans-over}
-use Rattle.repair.specs.Repair.{Pitches, pitchAt, framesIn, repairedAmong, repaired}
+use Rattle.lists.specs.Frames.{at}
+use Rattle.repair.specs.Repair.{Pitches, framesIn, repairedAmong, repaired}
 use Rattle.repair.specs.Places.{keyAt, Gathered, LongIn, RunWritten}
 use Rattle.repair.proofs.Sizes.{keep-part, long-run-frames}
 
 -- ---- a run
 module _ (lo hi : ℕ) (pitch : List Float) (a : Pitches lo hi pitch) where
-  pub pitched-at : (i : ℕ) → i < length pitch → voiced pitch i ≡ true → Between lo hi (pitchAt pitch i)
+  pub pitched-at : (i : ℕ) → i < length pitch → voiced pitch i ≡ true → Between lo hi (at pitch i)
   unfolding ne ofBits
   pitched-at i h v =
       ⊎-elim (λ e. absurd (true≢false (sym v ∙ ap (λ (p : Float). ne p none) e))) (λ b. b)
-      (each-at (λ p. (p ≡ none) ⊎ Between lo hi p) pitch nan a i h)
+      (each-at (PitchOrNone lo hi) pitch nan a i h)
 
 module _ (pitch : List Float) (r : Span) (a : Pitches 40 2000 pitch) (l : LongIn pitch r) where
-  frames-pitched : Each (λ i. Between 40 2000 (pitchAt pitch i)) (framesIn pitch r)
+  frames-pitched : Each (λ i. Between 40 2000 (at pitch i)) (framesIn pitch r)
   unfolding framesIn
   frames-pitched =
-      each-map (λ i. (r .first ≤ i) × (i < r .first + (r .last + 1 - r .first)) × (voiced pitch i ≡ true)) (λ i. Between 40 2000 (pitchAt pitch i))
+      each-map (λ i. (r .first ≤ i) × (i < r .first + (r .last + 1 - r .first)) × (voiced pitch i ≡ true)) (λ i. Between 40 2000 (at pitch i))
       (λ i h. pitched-at 40 2000 pitch a i (omega (arith, h .1, l .order, l .within)) (h .2))
       (framesIn pitch r) (each-keep (voiced pitch) (r .first) (r .last + 1 - r .first))
 
@@ -77,26 +79,13 @@ pub long-runs-long : (pitch : List Float) {given : List Float} {rs : List Span} 
 long-runs-long pitch e f = rw (e, f) (each-spaced pitch 0 (longRuns pitch) (long-spaced pitch) (long-run-frames pitch))
 
 -- ---- the whole track
-every-length : (i n : ℕ) → length (keep (λ i. true) i n) ≡ n
-unfolding keep
-every-length i zero = refl
-every-length i (suc n) = ap suc (every-length (suc i) n)
-
-every-at : {A : Type 0} (g : ℕ → A) (d : A) (i n k : ℕ) → k < n → getD (map g (keep (λ i. true) i n)) k d ≡ g (i + k)
-unfolding keep
-every-at g d i zero k h = absurd (omega arith)
-every-at g d i (suc n) zero h = ap g (sym (add-zero i))
-every-at g d i (suc n) (suc k) h =
-    let e : suc i + k ≡ i + suc k = omega arith in
-    every-at g d (suc i) n k (omega arith) ∙ ap g e
-
 pub length-repaired : (pitch : List Float) → length (repaired pitch) ≡ length pitch
 unfolding repaired
-length-repaired pitch = length-map (keep (λ i. true) 0 (length pitch)) (repairedAmong pitch (longRuns pitch)) ∙ every-length 0 (length pitch)
+length-repaired pitch = length-tabulate (repairedAmong pitch (longRuns pitch)) (length pitch)
 
 pub repaired-at : (pitch : List Float) (i : ℕ) → i < length pitch → getD (repaired pitch) i nan ≡ repairedAmong pitch (longRuns pitch) i
 unfolding repaired
-repaired-at pitch i h = every-at (repairedAmong pitch (longRuns pitch)) nan 0 (length pitch) i h ∙ ap (repairedAmong pitch (longRuns pitch)) (zero-add i)
+repaired-at pitch i h = tabulate-at (repairedAmong pitch (longRuns pitch)) (length pitch) i nan h
 
 pub whole : (pitch track : List Float) → length track ≡ length pitch → ((i : ℕ) → getD track i nan ≡ repairedAmong pitch (longRuns pitch) i) → track ≡ repaired pitch
 whole pitch track e w = ext-getD nan track (repaired pitch) (e ∙ sym (length-repaired pitch)) (λ i h. w i ∙ sym (repaired-at pitch i (omega arith)))

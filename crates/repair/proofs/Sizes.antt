@@ -1,8 +1,7 @@
 -- The size of a voiced run is how many voiced frames lie from its first to its last (`run-sizes`), so a long run has 5 or more (`long-run-frames`). Assumes nothing.
 use Prim.Native.Nat.{ℕ, zero, suc, _+_, _-_, _≤_}
-use native.Mathlib.Nat.{add-zero, zero-add, suc-add}
 use native.Mathlib.Omega.{arith}
-use mathlib.Core.Path.{_≡_, refl, sym, ap, ap₂, _∙_}
+use mathlib.Core.Path.{_≡_, refl, ap, ap₂, _∙_}
 use mathlib.Core.Bool.{Bool, true, false, cond}
 use mathlib.Core.List.{List, [], _∷_, _++_, map}
 use lib.ListN.{length, length-append}
@@ -10,29 +9,14 @@ use lib.Ieee.{Float}
 use borrow.Author.Tests.{leb-true}
 use Rattle.lists.specs.Results.{consIf, filter, keep}
 use Rattle.lists.specs.By.{Each}
-use Rattle.lists.proofs.Entries.{each-filter, each-kept, each-of-map}
+use Rattle.lists.proofs.Entries.{each-both, each-filter, each-kept, each-of-map}
+use Rattle.lists.proofs.Fill.{keep-split}
 use Rattle.runs.specs.declared.voiced.Run.{Run}
-use Rattle.runs.specs.Grouped.{attach, grouped}
+use Rattle.lists.specs.Grouped.{attach, grouped}
 use Rattle.runs.specs.Runs.{span, voiced, voicedFrames, sole, close, joined, voicedRuns, long, longRuns}
 use Rattle.repair.specs.Repair.{framesIn}
 
-each-both : {A : Type 0} (P Q R : A → Type 0) → ((x : A) → P x → Q x → R x) → (l : List A) → Each P l → Each Q l → Each R l
-each-both P Q R f [] p q = tt
-each-both P Q R f (x ∷ l) p q = (f x (p .0) (q .0), each-both P Q R f l (p .1) (q .1))
-
 module _ (t : ℕ → Bool) where
-  -- the frames of a range fall into those before a frame of it and those from there on
-  keep-split : (i a b : ℕ) → keep t i (a + b) ≡ keep t i a ++ keep t (i + a) b
-  unfolding keep
-  keep-split i zero b = ap₂ (keep t) (sym (add-zero i)) (zero-add b)
-  keep-split i (suc a) b =
-      let e : suc i + a ≡ i + suc a = omega arith in
-      ap (keep t i) (suc-add a b) ∙ ap (consIf (t i) i) (keep-split (suc i) a b ∙ ap (λ (j : ℕ). keep t (suc i) a ++ keep t j b) e) ∙ consIf-append (t i) i (keep t (suc i) a) (keep t (i + suc a) b)
-    where
-      consIf-append : (b : Bool) (x : ℕ) (l r : List ℕ) → consIf b x (l ++ r) ≡ consIf b x l ++ r
-      consIf-append true x l r = refl
-      consIf-append false x l r = refl
-
   keep-first : (i k : ℕ) → t i ≡ true → keep t i (suc k) ≡ i ∷ keep t (suc i) k
   unfolding keep
   keep-first i k e = rw e
@@ -41,7 +25,7 @@ module _ (t : ℕ → Bool) where
   pub keep-part : (i a b k : ℕ) → a + b ≤ k → length (keep t (i + a) b) ≤ length (keep t i k)
   keep-part i a b k h =
       let e : k ≡ a + (b + (k - a - b)) = omega (arith, h) in
-      let l = ap (λ (n : ℕ). length (keep t i n)) e ∙ ap length (keep-split i a (b + (k - a - b)) ∙ ap (λ (r : List ℕ). keep t i a ++ r) (keep-split (i + a) b (k - a - b))) in
+      let l = ap (λ (n : ℕ). length (keep t i n)) e ∙ ap length (keep-split t i a (b + (k - a - b)) ∙ ap (λ (r : List ℕ). keep t i a ++ r) (keep-split t (i + a) b (k - a - b))) in
       omega (arith, l, length-append (keep t i a) (keep t (i + a) b ++ keep t (i + a + b) (k - a - b)), length-append (keep t (i + a) b) (keep t (i + a + b) (k - a - b)))
 
   -- ---- the runs that the frames from i on make
@@ -72,7 +56,7 @@ module _ (t : ℕ → Bool) where
       let n : suc i + (r .first - suc i) ≡ r .first = omega (arith, h .0) in
       ap (λ (k : ℕ). length (keep t i k)) m
       ∙ ap length (keep-first i (r .first - suc i + (r .last + 1 - r .first)) e)
-      ∙ ap (λ (l : List ℕ). suc (length l)) (keep-split (suc i) (r .first - suc i) (r .last + 1 - r .first) ∙ ap₂ (λ (l : List ℕ) (j : ℕ). l ++ keep t j (r .last + 1 - r .first)) (h .2) n)
+      ∙ ap (λ (l : List ℕ). suc (length l)) (keep-split t (suc i) (r .first - suc i) (r .last + 1 - r .first) ∙ ap₂ (λ (l : List ℕ) (j : ℕ). l ++ keep t j (r .last + 1 - r .first)) (h .2) n)
       ∙ omega (arith, s)
 
   sizes-from : (i k : ℕ) → Each Sized (grouped close joined (map sole (keep t i k))) × Begins i (grouped close joined (map sole (keep t i k)))

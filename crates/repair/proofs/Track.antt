@@ -15,9 +15,11 @@ use Rattle.lists.specs.By.{Each}
 use Rattle.lists.specs.Marks.{member}
 use Rattle.lists.proofs.Fill.{drop-step}
 use Rattle.lists.proofs.Entries.{each-map, each-of-map}
+use Rattle.lists.proofs.Parts.{take-map, drop-map}
 use Rattle.lists.proofs.Members.{strict-few, member-over}
 use Rattle.powers.specs.Pitch.{Between}
-use Rattle.repair.specs.Repair.{pitchAt, lastOf, beside, repairedIn}
+use Rattle.lists.specs.Frames.{at}
+use Rattle.repair.specs.Repair.{lastOf, beside, repairedIn}
 use Rattle.repair.specs.Places.{around, PitchPlace, keyAt, Gathered, Written}
 use Rattle.repair.proofs.Places.{neighbours-at}
 
@@ -51,22 +53,12 @@ module _ (value : ℕ → Float) (frames : List ℕ) (old : List Float) where
 
 -- ---- the frames of a run, and what is said of their places said of the frames
 module _ {A B : Type 0} (g : A → B) where
-  map-take : (n : ℕ) (l : List A) → map g (take n l) ≡ take n (map g l)
-  map-take zero l = refl
-  map-take (suc n) [] = refl
-  map-take (suc n) (x ∷ l) = ap (λ (z : List B). g x ∷ z) (map-take n l)
-
-  map-drop : (n : ℕ) (l : List A) → map g (drop n l) ≡ drop n (map g l)
-  map-drop zero l = refl
-  map-drop (suc n) [] = refl
-  map-drop (suc n) (x ∷ l) = map-drop n l
-
   map-around : (l : List A) (p : ℕ) → map g (around l p) ≡ around (map g l) p
   map-around l p =
       map-append g (lastOf 5 (take p l)) (take 5 (drop (p + 1) l))
       ∙ ap₂ (λ (x y : List B). x ++ y)
-      (map-drop (length (take p l) - 5) (take p l) ∙ ap₂ (λ (k : ℕ) (z : List B). drop (k - 5) z) (sym (length-map (take p l) g) ∙ ap length (map-take p l)) (map-take p l))
-      (map-take 5 (drop (p + 1) l) ∙ ap (take 5) (map-drop (p + 1) l))
+      (sym (drop-map g (length (take p l) - 5) (take p l)) ∙ ap₂ (λ (k : ℕ) (z : List B). drop (k - 5) z) (sym (length-map (take p l) g) ∙ ap length (sym (take-map g p l))) (sym (take-map g p l)))
+      (sym (take-map g 5 (drop (p + 1) l)) ∙ ap (take 5) (sym (drop-map g (p + 1) l)))
 
 module _ (pitch : List Float) (frames keys : List ℕ) (g : Gathered pitch frames keys) where
   pub keys-length : length keys ≡ length frames
@@ -75,11 +67,11 @@ module _ (pitch : List Float) (frames keys : List ℕ) (g : Gathered pitch frame
   pub frames-few : length frames ≤ length pitch
   frames-few = omega (arith, strict-few 0 (length pitch) frames (omega arith) (g .rises))
 
-  module _ (fit : (i : ℕ) → T (fits binary32 (pitchAt pitch i))) where
-    back : (i : ℕ) → valueOf (keyAt pitch i) ≡ pitchAt pitch i
-    back i = value-back (pitchAt pitch i) (fit i)
+  module _ (fit : (i : ℕ) → T (fits binary32 (at pitch i))) where
+    back : (i : ℕ) → valueOf (keyAt pitch i) ≡ at pitch i
+    back i = value-back (at pitch i) (fit i)
 
-    pub key-value : (p : ℕ) → p < length frames → pitchAt pitch (getD frames p 0) ≡ valueOf (getD keys p 0)
+    pub key-value : (p : ℕ) → p < length frames → at pitch (getD frames p 0) ≡ valueOf (getD keys p 0)
     key-value p h = sym (ap (λ (l : List ℕ). valueOf (getD l p 0)) (g .places) ∙ ap valueOf (map-at p frames h) ∙ back (getD frames p 0))
       where
         map-at : (p : ℕ) (l : List ℕ) → p < length l → getD (map (keyAt pitch) l) p 0 ≡ keyAt pitch (getD l p 0)
@@ -91,16 +83,16 @@ module _ (pitch : List Float) (frames keys : List ℕ) (g : Gathered pitch frame
     keys-placed =
         subst (Each PitchPlace) (sym (g .places))
         (each-of-map PitchPlace (keyAt pitch) frames
-        (each-map (λ i. Between 40 2000 (pitchAt pitch i)) (λ i. PitchPlace (keyAt pitch i)) (λ i b. (ap totalKey (back i), subst (Between 40 2000) (sym (back i)) b)) frames (g .pitched)))
+        (each-map (λ i. Between 40 2000 (at pitch i)) (λ i. PitchPlace (keyAt pitch i)) (λ i b. (ap totalKey (back i), subst (Between 40 2000) (sym (back i)) b)) frames (g .pitched)))
 
-    values-back : (l : List ℕ) → map valueOf (map (keyAt pitch) l) ≡ map (pitchAt pitch) l
+    values-back : (l : List ℕ) → map valueOf (map (keyAt pitch) l) ≡ map (at pitch) l
     values-back [] = refl
     values-back (i ∷ l) = ap₂ (λ (v : Float) (z : List Float). v ∷ z) (back i) (values-back l)
 
-    pub run-value : (p : ℕ) → p < length frames → beside (pitchAt pitch (getD frames p 0)) (map valueOf (around keys p)) ≡ repairedIn pitch frames (getD frames p 0)
+    pub run-value : (p : ℕ) → p < length frames → beside (at pitch (getD frames p 0)) (map valueOf (around keys p)) ≡ repairedIn pitch frames (getD frames p 0)
     run-value p h =
-        ap (beside (pitchAt pitch (getD frames p 0)))
+        ap (beside (at pitch (getD frames p 0)))
         (ap (λ (l : List ℕ). map valueOf (around l p)) (g .places)
         ∙ ap (map valueOf) (sym (map-around (keyAt pitch) frames p))
         ∙ values-back (around frames p)
-        ∙ ap (map (pitchAt pitch)) (sym (neighbours-at (length pitch) 0 frames p h (g .rises))))
+        ∙ ap (map (at pitch)) (sym (neighbours-at (length pitch) 0 frames p h (g .rises))))

@@ -1,4 +1,5 @@
--- The frames of a run by their places in it, their pitches by their places in the total order, and what is written to a track. Definitions only.
+-- Scaffolding of the code's loops: the frames of a run by their places in it, their pitches by their places in the total order, and what is written to a
+-- track. Definitions only.
 use Prim.Native.Nat.{ℕ, _+_, _-_, _≤_, _<_}
 use mathlib.Core.Path.{_≡_}
 use mathlib.Core.Bool.{Bool, cond}
@@ -12,7 +13,8 @@ use Rattle.lists.specs.Marks.{member}
 use Rattle.lists.specs.Sorted.{StrictlyRises}
 use Rattle.powers.specs.Pitch.{Between}
 use Rattle.runs.specs.Runs.{Span}
-use Rattle.repair.specs.Repair.{pitchAt, framesIn, lastOf, repairedIn}
+use Rattle.lists.specs.Frames.{at}
+use Rattle.repair.specs.Repair.{framesIn, lastOf, repairedIn}
 
 -- the neighbours of the frame at place p of a run: of the run's frames, or of what belongs to each of them
 abbrev pub around : {A : Type 0} → List A → ℕ → List A
@@ -28,13 +30,13 @@ far k x = ltb 4194304 (x - k + (k - x))
 
 -- the place of the pitch of frame i
 abbrev pub keyAt : List Float → ℕ → ℕ
-keyAt pitch i = totalKey (pitchAt pitch i)
+keyAt pitch i = totalKey (at pitch i)
 
 -- the voiced frames of a run, two or more, with the places of their pitches
 pub record Gathered (pitch : List Float) (frames keys : List ℕ) : Type 0 where
   pub rises : StrictlyRises 0 (length pitch) frames
   pub several : 2 ≤ length frames
-  pub pitched : Each (λ i. Between 40 2000 (pitchAt pitch i)) frames
+  pub pitched : Each (λ i. Between 40 2000 (at pitch i)) frames
   pub places : keys ≡ map (keyAt pitch) frames
 
 -- a run of the track with 5 voiced frames or more

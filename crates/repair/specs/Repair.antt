@@ -1,29 +1,24 @@
 -- Octave repair: in a long run a pitch is halved or doubled where it lies too far from the middle of its neighbours' pitches. Definitions only.
 use Prim.Native.Nat.{ℕ, _+_, _-_, _/_}
-use mathlib.Core.Path.{_≡_}
-use mathlib.Core.Bool.{true, cond}
+use mathlib.Core.Bool.{cond}
 use mathlib.Core.List.{List, [], _∷_, _++_, map}
-use mathlib.Core.Logic.{_⊎_}
 use lib.Dec.{ltb}
 use lib.ListN.{length, getD, take, drop}
 use lib.Ieee.{Float, nan, binary32, mul}
 use Rattle.floats.specs.Plain.{half, two}
 use Rattle.floats.specs.Total.{before}
+use Rattle.lists.specs.Frames.{at, tabulate}
 use Rattle.lists.specs.Results.{keep, filter}
 use Rattle.lists.specs.By.{Each, sortBy}
 use Rattle.lists.specs.Marks.{member}
-use Rattle.powers.specs.Pitch.{Between, octaveAt}
+use Rattle.powers.specs.Pitch.{PitchOrNone, octaveAt}
 use Rattle.powers.specs.declared.pitch.Octave.{Octave}
 use Rattle.powers.specs.declared.pitch.Octave.the-variants.{Keep, Halve, Double}
-use Rattle.runs.specs.Runs.{none, voiced, Span, longRuns}
+use Rattle.runs.specs.Runs.{voiced, Span, longRuns}
 
--- each entry of a track is +0.0, which is no pitch, or a pitch from lo to hi Hz
+-- each entry of a track is no pitch, or one from lo to hi Hz
 abbrev pub Pitches : ℕ → ℕ → List Float → Type 0
-Pitches lo hi = Each (λ p. (p ≡ none) ⊎ Between lo hi p)
-
--- the pitch of frame i
-abbrev pub pitchAt : List Float → ℕ → Float
-pitchAt pitch i = getD pitch i nan
+Pitches lo hi = Each (PitchOrNone lo hi)
 
 -- the voiced frames of a run, in order
 unfoldable pub framesIn : List Float → Span → List ℕ
@@ -57,13 +52,13 @@ beside f values = shifted (octaveAt f (lowerMiddle values) (upperMiddle values))
 
 -- the pitch of frame i of a run, by the pitches as given
 abbrev pub repairedIn : List Float → List ℕ → ℕ → Float
-repairedIn pitch run i = beside (pitchAt pitch i) (map (pitchAt pitch) (neighbours run i))
+repairedIn pitch run i = beside (at pitch i) (map (at pitch) (neighbours run i))
 
 -- frame i: repaired in the run that it is a voiced frame of; where there is none, its pitch stays
 unfoldable pub repairedAmong : List Float → List Span → ℕ → Float
-repairedAmong pitch [] i = pitchAt pitch i
+repairedAmong pitch [] i = at pitch i
 repairedAmong pitch (r ∷ rs) i = cond (member (framesIn pitch r) i) (repairedIn pitch (framesIn pitch r) i) (repairedAmong pitch rs i)
 
 -- the repaired track, frame by frame
 unfoldable pub repaired : List Float → List Float
-repaired pitch = map (repairedAmong pitch (longRuns pitch)) (keep (λ i. true) 0 (length pitch))
+repaired pitch = tabulate (repairedAmong pitch (longRuns pitch)) (length pitch)

@@ -2,46 +2,36 @@
 use Prim.Native.Nat.{ℕ, zero, suc, _+_, _≤_, min}
 use native.Mathlib.Omega.{arith}
 use native.Mathlib.Nat.{le-refl, le-of-eq}
-use mathlib.Core.Path.{_≡_, refl, sym, ap, subst, _∙_}
-use mathlib.Core.Bool.{Bool, true, false}
+use mathlib.Core.Path.{_≡_, refl, sym, ap, _∙_}
 use mathlib.Core.List.{List}
-use lib.Dec.{leb}
 use lib.ListN.{length, take, drop, length-take, length-map}
-use lib.Seq.{take-all}
 use lib.Ieee.{Float}
-use borrow.Author.Tests.{leb-true, leb-false, eq-eqb, ne-eqb}
-use Rattle.lists.specs.Results.{overlay, Listed}
-use Rattle.lists.proofs.Fill.{listed-take}
+use borrow.Author.Tests.{eq-eqb, ne-eqb}
+use Rattle.lists.specs.Results.{overlay}
+use Rattle.lists.proofs.Fill.{overlay-take}
+use Rattle.lists.proofs.Parts.{take-min}
 use Rattle.region.specs.Speech.{regionOf}
 use Rattle.region.specs.declared.Region.{Region}
 use Rattle.region.specs.declared.Region.the-variants.{Nowhere, Span}
 use Rattle.nuclei.specs.Nuclei.{Nucleus, framesOf, strengthsOf}
-use Rattle.kiddwyr.specs.Chain.{Take, Lists, Left, pitchesOf, readingIn, readingOf, leftBy, leaves, chainOf}
-use Rattle.kiddwyr.specs.Chain.{refusalOf as chainRefusalOf}
+use Rattle.chain.specs.Chain.{Take, Lists, Left, pitchesOf, readingIn, readingOf, written, leftBy, leaves, chainOf}
+use Rattle.chain.specs.Chain.{refusalOf as chainRefusalOf}
 use Rattle.take.specs.File.{framesIn, refusalOf, records, trackAt, takeIn, readTake}
 use Rattle.take.specs.File.{Take as FileTake}
 use Rattle.take.specs.Listing.{listing, refusedListing, largestListing}
 use Rattle.take.specs.Listing.{Marks as Told}
 use Rattle.take.proofs.Sizes.{listing-fits}
-use Rattle.report.specs.Shown.{told, refusalIn, textBy, textOf, unsampled, printed, shown, Room}
-
--- the same text
-pub listed-as : {s t old new : List ℕ} {r : ℕ} → s ≡ t → Listed s old new r → Listed t old new r
-listed-as {s} {t} {old} {new} {r} e = subst (λ (z : List ℕ). Listed z old new r) e
+use Rattle.report.specs.Shown.{told, refusalIn, textBy, textOf, unsampled, printed, shown, Fitting}
 
 -- ---- the text of a call of the chain is that of the take
--- a result's entries are all that is shown of its list
-front-of : {A : Type 0} (res old : List A) {n : ℕ} → n ≡ length res → take n (overlay res old) ≡ res
-front-of res old e = listed-take (record { count = e; entries = refl })
-
 frames-front : (ns : List Nucleus) (old : List ℕ) → take (length ns) (overlay (framesOf ns) old) ≡ framesOf ns
-frames-front ns old = front-of (framesOf ns) old (sym (length-map ns (λ (n : Nucleus). n .frame)))
+frames-front ns old = overlay-take (framesOf ns) old (sym (length-map ns (λ (n : Nucleus). n .frame)))
 
 strengths-front : (ns : List Nucleus) (old : List Float) → take (length ns) (overlay (strengthsOf ns) old) ≡ strengthsOf ns
-strengths-front ns old = front-of (strengthsOf ns) old (sym (length-map ns (λ (n : Nucleus). n .strength)))
+strengths-front ns old = overlay-take (strengthsOf ns) old (sym (length-map ns (λ (n : Nucleus). n .strength)))
 
 module _ (t : Take) (l : Lists) where
-  shown-in : (r : Region) → let m = readingIn (t .db) (pitchesOf t) (t .voiced) (t .sonority) (t .settings) r in shown (t .pitch) (leftBy m l) ≡ listing (told (t .pitch) m)
+  shown-in : (r : Region) → let m = readingIn (t .db) (pitchesOf t) (t .voiced) (t .sonority) (t .settings) r in shown (t .pitch) (leftBy written m l) ≡ listing (told (t .pitch) m)
   unfolding shown
   shown-in Nowhere = refl
   shown-in (Span start end) =
@@ -51,11 +41,11 @@ module _ (t : Take) (l : Lists) where
         strengths-front (m .nuclei) (l .strengths),
         frames-front (m .extras) (l .xframes),
         strengths-front (m .extras) (l .xstrengths),
-        front-of (m .edges) (l .edges) refl,
-        front-of (m .boundaries) (l .bounds) refl,
+        overlay-take (m .edges) (l .edges) refl,
+        overlay-take (m .boundaries) (l .bounds) refl,
       )
 
-  shown-by : (number : ℕ) → shown (t .pitch) (leaves t l number) ≡ textBy t number
+  shown-by : (number : ℕ) → shown (t .pitch) (leaves written t l number) ≡ textBy t number
   unfolding readingOf shown
   shown-by zero = shown-in (regionOf (t .db) (t .settings))
   shown-by (suc k) = rw (ne-eqb (suc k) 0 (λ e. absurd (omega (arith, e))))
@@ -86,7 +76,7 @@ module _ (t : Take) (few : length (t .pitch) ≤ 2048) (f : List ℕ) (s : List 
       let n = length (t .pitch) in
       (part-length f n n 2049 hf refl (omega arith), part-length s n n 2048 hs refl few, part-length x n n 2049 hx refl (omega arith), part-length y n n 2048 hy refl few, part-length e n n 2049 he refl (omega arith), part-length b (n + 1) (n + 1) 2049 hb refl (omega arith))
 
-  pub parts-room : Room (length (t .pitch)) parts
+  pub parts-room : Fitting (length (t .pitch)) parts
   parts-room = let h = whole in record { few = few; frames = le-of-eq (h .0); strengths = h .1 ∙ sym (h .0); xframes = le-of-eq (h .2); xstrengths = h .3 ∙ sym (h .2); edges = le-of-eq (h .4); bounds = le-of-eq (h .5) }
 
   pub parts-text : {given : List Float} → given ≡ t .pitch → shown given (chainOf t parts) ≡ textOf t
@@ -94,11 +84,7 @@ module _ (t : Take) (few : length (t .pitch) ≤ 2048) (f : List ℕ) (s : List 
 
 -- the first entries, at most all
 pub take-least : {A : Type 0} (l : List A) (k n : ℕ) {r : ℕ} → r ≡ min k n → length l ≡ n → take r l ≡ take k l
-take-least l k n {r} e h = go (leb k n) refl
-  where
-    go : (b : Bool) → leb k n ≡ b → take r l ≡ take k l
-    go true p = let s : r ≡ k = omega (arith, leb-true k n p) in rw s
-    go false p = take-all r l (omega (arith, leb-false k n p)) ∙ sym (take-all k l (omega (arith, leb-false k n p)))
+take-least l k n e h = ap (λ (i : ℕ). take i l) (e ∙ ap (min k) (sym h)) ∙ take-min k l
 
 -- ---- the listing of a call
 module _ (given : List Float) (o : Left) where
@@ -123,7 +109,7 @@ module _ (given : List Float) (o : Left) where
   unfolding shown
   refused-shown h = rw (ne-eqb (o .answer .refusal) 0 h)
 
-  module _ (room : Room (length (o .pitch)) (o .lists)) where
+  module _ (room : Fitting (length (o .pitch)) (o .lists)) where
     pub front-fits : (a b c d : ℕ) → length (listing (front a b c d)) ≤ largestListing
     front-fits a b c d =
         listing-fits (front a b c d) (length (o .pitch)) (room .few)

@@ -7,8 +7,7 @@ use lib.Dec.{eqb}
 use lib.ListN.{length, take}
 use lib.Ieee.{Float}
 use Rattle.nuclei.specs.Nuclei.{framesOf, strengthsOf}
-use Rattle.admit.specs.Refusals.{chainRefusal}
-use Rattle.kiddwyr.specs.Chain.{Take, Reading, Lists, Left, readingOf, answered}
+use Rattle.chain.specs.Chain.{Take, Reading, Lists, Left, takeOf, readingOf, answered, refusalFor}
 use Rattle.take.specs.File.{readTake}
 use Rattle.take.specs.File.{Take as FileTake, Reading as FileReading}
 use Rattle.take.specs.File.Reading.{refused, taken}
@@ -37,7 +36,7 @@ told given m =
 abbrev pub refusalIn : Take → ℕ
 refusalIn t =
     let n = length (t .pitch) in
-    chainRefusal (t .db) (t .pitch) (t .voiced) (t .sonority) (t .vowel) (length (t .samples)) (t .settings) n n n n n (n + 1)
+    refusalFor t n n n n n (n + 1)
 
 -- by that number: the listing of the reading, or the refusal
 abbrev pub textBy : Take → ℕ → List ℕ
@@ -50,7 +49,7 @@ textOf t = textBy t (refusalIn t)
 -- ---- a file
 -- its take, which has no samples
 abbrev pub unsampled : FileTake → Take
-unsampled t = record { db = t .db; pitch = t .pitch; voiced = t .voiced; sonority = t .sonority; vowel = t .vowel; samples = []; settings = t .settings }
+unsampled t = takeOf (t .db) (t .pitch) (t .voiced) (t .sonority) (t .vowel) [] (t .settings)
 
 abbrev pub answerTo : FileReading → List ℕ
 answerTo (refused number) = refusedListing number
@@ -82,7 +81,7 @@ shown given o =
     (refusedListing (o .answer .refusal))
 
 -- lists of at most the entries that n frames need
-pub record Room (n : ℕ) (l : Lists) : Type 0 where
+pub record Fitting (n : ℕ) (l : Lists) : Type 0 where
   pub few : n ≤ 2048
   pub frames : length (l .frames) ≤ n
   pub strengths : length (l .strengths) ≡ length (l .frames)

@@ -1,5 +1,7 @@
 // What the program `marks` prints, on bytes: a take file in, its listing out.
-use kiddwyr::chain::Marks;
+use chain::Marks;
+use lists::blank::blank_track;
+use lists::sizes::smaller;
 use region::Settings;
 use take::file::frames_in;
 use take::file::read_take;
@@ -8,27 +10,14 @@ use take::file::take_refusal;
 use take::listing::listing;
 use take::listing::refused;
 ghost use mathlib.Core.Path.{_≡_};
-ghost use Prim.Native.Nat.{_+_, _*_, _≤_, min};
+ghost use Prim.Native.Nat.{_+_, _*_, _≤_};
 ghost use mathlib.Core.List.{[]};
 ghost use lib.ListN.{length};
 ghost use Rattle.lists.specs.Results.{Listed};
-ghost use Rattle.kiddwyr.specs.Chain.{chainOf};
+ghost use Rattle.chain.specs.Chain.{takeOf, listsOf, chainOf};
 ghost use Rattle.take.specs.File.{framesIn, takeIn};
 ghost use Rattle.take.specs.Listing.{largestListing};
-ghost use Rattle.report.specs.Shown.{textOf, unsampled, printed, shown, Room};
-
-// The smaller of two numbers.
-pub fn least(a: usize, b: usize) -> usize
-    ensures { λ r. ⌜ r ≡ min a b ⌝ }
-{
-    if a < b { a } else { b }
-}
-
-fn blank_track() -> [f32; 2048]
-    ensures { λ r. ⌜ length r ≡ 2048 ⌝ }
-{
-    [0.0f32; 2048]
-}
+ghost use Rattle.report.specs.Shown.{textOf, unsampled, printed, shown, Fitting};
 
 fn blank_marks() -> [u8; 2048]
     ensures { λ r. ⌜ length r ≡ 2048 ⌝ }
@@ -56,16 +45,24 @@ fn show(
     bounds: &[u32],
     out: &mut [u8],
 ) -> usize
-    requires { ⌜ (length (now given) ≡ length (now left)) × Room (length (now left)) (record { frames = now frames; strengths = now strengths; xframes = now xframes; xstrengths = now xstrengths; edges = now edges; bounds = now bounds }) ⌝ }
+    requires { ⌜ (length (now given) ≡ length (now left))
+        × Fitting (length (now left)) (listsOf (now frames) (now strengths) (now xframes) (now xstrengths) (now edges)
+        (now bounds)) ⌝ }
     requires { ⌜ largestListing ≤ length (now out) ⌝ }
-    ensures { λ r. ⌜ Listed (shown (now (given .entry)) (record { answer = m; pitch = now (left .entry); lists = record { frames = now (frames .entry); strengths = now (strengths .entry); xframes = now (xframes .entry); xstrengths = now (xstrengths .entry); edges = now (edges .entry); bounds = now (bounds .entry) } })) (now (out .entry)) (now (out .exit)) r ⌝ }
+    ensures { λ r. ⌜ Listed (shown (now (given .entry))
+        (record {
+          answer = m;
+          pitch = now (left .entry);
+          lists = (listsOf (now (frames .entry)) (now (strengths .entry)) (now (xframes .entry)) (now (xstrengths .entry))
+              (now (edges .entry)) (now (bounds .entry)));
+        })) (now (out .entry)) (now (out .exit)) r ⌝ }
 {
     let number = m.refusal;
     if number == 0 {
-        let a = least(m.nuclei, frames.len());
-        let b = least(m.extras, xframes.len());
-        let c = least(m.edges, edges.len());
-        let d = least(m.boundaries, bounds.len());
+        let a = smaller(m.nuclei, frames.len());
+        let b = smaller(m.extras, xframes.len());
+        let c = smaller(m.edges, edges.len());
+        let d = smaller(m.boundaries, bounds.len());
         return listing(
             given,
             left,
@@ -101,12 +98,17 @@ fn list_marks(
     bounds: &mut [u32],
     out: &mut [u8],
 ) -> usize
-    requires { ⌜ (length (now given) ≡ length (now pitch)) × Room (length (now pitch)) (record { frames = now frames; strengths = now strengths; xframes = now xframes; xstrengths = now xstrengths; edges = now edges; bounds = now bounds }) ⌝ }
+    requires { ⌜ (length (now given) ≡ length (now pitch))
+        × Fitting (length (now pitch))
+        (listsOf (now frames) (now strengths) (now xframes) (now xstrengths) (now edges) (now bounds)) ⌝ }
     requires { ⌜ largestListing ≤ length (now out) ⌝ }
-    ensures { λ r. ⌜ Listed (shown (now (given .entry)) (chainOf (record { db = now (db .entry); pitch = now (pitch .entry); voiced = now (voiced .entry); sonority = now (sonority .entry); vowel = now (vowel .entry); samples = []; settings = p }) (record { frames = now (frames .entry); strengths = now (strengths .entry); xframes = now (xframes .entry); xstrengths = now (xstrengths .entry); edges = now (edges .entry); bounds = now (bounds .entry) }))) (now (out .entry)) (now (out .exit)) r ⌝ }
+    ensures { λ r. ⌜ Listed (shown (now (given .entry))
+        (chainOf (takeOf (now (db .entry)) (now (pitch .entry)) (now (voiced .entry)) (now (sonority .entry)) (now (vowel .entry))
+        [] p) (listsOf (now (frames .entry)) (now (strengths .entry)) (now (xframes .entry)) (now (xstrengths .entry))
+        (now (edges .entry)) (now (bounds .entry))))) (now (out .entry)) (now (out .exit)) r ⌝ }
 {
     let samples = [0i16; 1];
-    let m = kiddwyr::chain::chain(
+    let m = chain::chain(
         db,
         pitch,
         voiced,
@@ -148,7 +150,9 @@ fn with_lists(
 ) -> usize
     requires { ⌜ (now given ≡ now pitch) × (length (now pitch) ≤ 2048) ⌝ }
     requires { ⌜ largestListing ≤ length (now out) ⌝ }
-    ensures { λ r. ⌜ Listed (textOf (record { db = now (db .entry); pitch = now (pitch .entry); voiced = now (voiced .entry); sonority = now (sonority .entry); vowel = now (vowel .entry); samples = []; settings = p })) (now (out .entry)) (now (out .exit)) r ⌝ }
+    ensures { λ r. ⌜ Listed (textOf
+        (takeOf (now (db .entry)) (now (pitch .entry)) (now (voiced .entry)) (now (sonority .entry)) (now (vowel .entry)) [] p))
+        (now (out .entry)) (now (out .exit)) r ⌝ }
 {
     let n = pitch.len();
     let mut frames = blank_list();
@@ -187,7 +191,9 @@ fn on_tracks(
     out: &mut [u8],
 ) -> usize
     requires { ⌜ (framesIn (now file) ≤ 2048) × (19 + 17 * framesIn (now file) ≤ length (now file)) ⌝ }
-    requires { ⌜ (length (now db) ≡ framesIn (now file)) × (length (now pitch) ≡ framesIn (now file)) × (length (now voiced) ≡ framesIn (now file)) × (length (now sonority) ≡ framesIn (now file)) × (length (now vowel) ≡ framesIn (now file)) × (length (now given) ≡ framesIn (now file)) ⌝ }
+    requires { ⌜ (length (now db) ≡ framesIn (now file)) × (length (now pitch) ≡ framesIn (now file))
+        × (length (now voiced) ≡ framesIn (now file)) × (length (now sonority) ≡ framesIn (now file))
+        × (length (now vowel) ≡ framesIn (now file)) × (length (now given) ≡ framesIn (now file)) ⌝ }
     requires { ⌜ largestListing ≤ length (now out) ⌝ }
     ensures { λ r. ⌜ Listed (textOf (unsampled (takeIn (now (file .entry))))) (now (out .entry)) (now (out .exit)) r ⌝ }
 {

@@ -1,4 +1,3 @@
-pub mod Grouping
 pub mod Spacing
 pub mod Spans
 pub mod Walking

@@ -110,3 +110,11 @@ module _ (at : ℕ) where
   pub run-of-answers : (rs : List Span) → Answers at rs (runOf rs at)
   unfolding runOf
   run-of-answers rs = search-answers [] rs 3 Nothing (record { few = omega arith; all = tt; reaches = refl; answers = tt })
+
+-- what holds of every run holds of the one that is found
+pub found-each : (P : Span → Type 0) (rs : List Span) (at k f l : ℕ) → Each P rs → Answers at rs (At k f l) → P (record { first = f; last = l })
+found-each P rs at k f l e a = middle (a .earlier) (subst (Each P) (a .split) e)
+  where
+    middle : (earlier : List Span) → Each P (earlier ++ (record { first = f; last = l } ∷ a .later)) → P (record { first = f; last = l })
+    middle [] h = h .0
+    middle (r ∷ rs) h = middle rs (h .1)

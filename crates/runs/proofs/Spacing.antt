@@ -14,9 +14,9 @@ use Rattle.lists.specs.Sorted.{StrictlyRises}
 use Rattle.lists.proofs.Entries.{each-kept}
 use Rattle.lists.proofs.Members.{keep-rises}
 use Rattle.runs.specs.declared.voiced.Run.{Run}
-use Rattle.runs.specs.Grouped.{attach, grouped}
+use Rattle.lists.specs.Grouped.{attach, grouped}
 use Rattle.runs.specs.Runs.{Span, span, voiced, voicedFrames, sole, close, joined, voicedRuns, long, longRuns, Within, Spaced}
-use Rattle.runs.specs.Syllables.{breaksFrom, unbroken, across, syllablesOf, syllableRuns, Gap, gaps, dropoutsOf, dropouts}
+use Rattle.runs.specs.Syllables.{breaksFrom, unbroken, across, syllablesOf, syllableRuns, gaps, dropoutsOf, dropouts}
 
 -- ---- runs that are spaced
 pub spaced-from : (lo lo' n : ℕ) (rs : List Span) → lo ≤ lo' → Spaced lo' n rs → Spaced lo n rs
@@ -42,7 +42,7 @@ spaced-filter p lo n (r ∷ rs) s = go (p r) (spaced-filter p (r .last + 4) n rs
     go false t = spaced-from lo (r .last + 4) n (map span (filter p rs)) (omega (arith, s .0, s .1)) t
 
 -- the gaps between them are wide
-gaps-wide : (lo n : ℕ) (rs : List Span) → Spaced lo n rs → Each (λ g. (g .before + 3 < g .after) × (g .after < n)) (gaps rs)
+gaps-wide : (lo n : ℕ) (rs : List Span) → Spaced lo n rs → Each (λ g. (g .first + 3 < g .last) × (g .last < n)) (gaps rs)
 unfolding gaps
 gaps-wide lo n [] s = tt
 gaps-wide lo n (r ∷ []) s = tt
@@ -100,6 +100,6 @@ module _ (pitch : List Float) where
   syllable-few = omega (arith, spaced-few 0 (length pitch) (syllableRuns pitch) (omega arith) syllable-spaced)
 
   -- ---- dropouts
-  pub dropout-wide : Each (λ g. (g .before + 3 < g .after) × (g .after < length pitch)) (dropouts pitch)
+  pub dropout-wide : Each (λ g. (g .first + 3 < g .last) × (g .last < length pitch)) (dropouts pitch)
   unfolding dropouts dropoutsOf
-  dropout-wide = each-kept (λ g. (g .before + 3 < g .after) × (g .after < length pitch)) (λ (g : Gap). not (breaksFrom pitch (g .before) (g .after))) (gaps (longRuns pitch)) (gaps-wide 0 (length pitch) (longRuns pitch) long-spaced)
+  dropout-wide = each-kept (λ g. (g .first + 3 < g .last) × (g .last < length pitch)) (λ (g : Span). not (breaksFrom pitch (g .first) (g .last))) (gaps (longRuns pitch)) (gaps-wide 0 (length pitch) (longRuns pitch) long-spaced)

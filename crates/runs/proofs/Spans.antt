@@ -1,12 +1,14 @@
--- Runs read from the lists of their first and of their last frames; and that what a call writes there reads as its runs (`written`). Assumes nothing.
+-- Runs read from the lists of their first and of their last frames; that what a call writes there reads as its runs (`written`); and runs written there one after
+-- the other (`SpansFilling`). Assumes nothing.
 use Prim.Native.Nat.{ℕ, zero, suc, _+_, _≤_, _<_}
 use native.Mathlib.Omega.{arith}
 use mathlib.Core.Path.{_≡_, refl, sym, ap, ap₂, subst, _∙_}
+use mathlib.Core.Bool.{Bool, true}
 use mathlib.Core.List.{List, [], _∷_}
-use lib.ListN.{length, getD, take, drop, length-map, drop-of-length-le}
-use Rattle.lists.specs.Results.{Listed}
-use Rattle.lists.proofs.Fill.{drop-step, listed-take}
-use Rattle.runs.specs.Runs.{Span, spans, firsts, lasts, Within}
+use lib.ListN.{length, getD, set, take, drop, length-map, drop-of-length-le}
+use Rattle.lists.specs.Results.{Pushed, consIf}
+use Rattle.lists.proofs.Fill.{Filling, fill-start, fill-length, fill-fits, fill-push, fill-fitsIf, fill-pushed, fill-end, map-consIf, drop-step, listed-take}
+use Rattle.runs.specs.Runs.{Span, spans, firsts, lasts, Within, SpansIn, SpansListed}
 
 pub spans-of : (rs : List Span) → spans (firsts rs) (lasts rs) ≡ rs
 unfolding spans
@@ -48,7 +50,7 @@ pub record Holds (rs : List Span) (fs ls : List ℕ) : Type 0 where
   pub lasts-many : length ls ≡ length rs
   pub runs : spans fs ls ≡ rs
 
-pub written : (rs : List Span) {first₀ first last₀ last : List ℕ} {n : ℕ} → Listed (firsts rs) first₀ first n × Listed (lasts rs) last₀ last n → Holds rs (take n first) (take n last)
+pub written : (rs : List Span) {first₀ first last₀ last : List ℕ} {n : ℕ} → SpansListed rs first₀ first last₀ last n → Holds rs (take n first) (take n last)
 written rs w =
     let f = listed-take (w .0) in
     let l = listed-take (w .1) in
@@ -56,3 +58,42 @@ written rs w =
 
 pub holds-within : {rs : List Span} {fs ls : List ℕ} (n : ℕ) → Holds rs fs ls → Within n rs → Within n (spans fs ls)
 holds-within n h w = subst (Within n) (sym (h .runs)) w
+
+-- two lists that hold runs of a track are lent as such
+pub holds-in : {rs : List Span} {fs ls : List ℕ} (n : ℕ) → Holds rs fs ls → Within n rs → SpansIn n fs ls
+holds-in n h w = (h .firsts-many ∙ sym (h .lasts-many), holds-within n h w)
+
+-- ---- runs written one after the other
+pub record SpansFilling (whole rest : List Span) (first₀ first last₀ last : List ℕ) (n : ℕ) : Type 0 where
+  pub fs : Filling (firsts whole) (firsts rest) first₀ first n
+  pub ls : Filling (lasts whole) (lasts rest) last₀ last n
+
+pub spans-start : (whole : List Span) (first₀ last₀ : List ℕ) → length whole ≤ length first₀ → length whole ≤ length last₀ → SpansFilling whole whole first₀ first₀ last₀ last₀ 0
+spans-start whole first₀ last₀ h i = record { fs = fill-start _ _ (rw length-map h); ls = fill-start _ _ (rw length-map i) }
+
+module _ {whole rest : List Span} {first₀ first last₀ last : List ℕ} {n : ℕ} where
+  pub spans-lengths : SpansFilling whole rest first₀ first last₀ last n → (length first ≡ length first₀) × (length last ≡ length last₀)
+  spans-lengths f = (fill-length (f .fs), fill-length (f .ls))
+
+  module _ {r : Span} (f : SpansFilling whole (r ∷ rest) first₀ first last₀ last n) where
+    pub spans-fit : (n < length first) × (n < length last) × (length first ≡ length first₀) × (length last ≡ length last₀)
+    spans-fit = (fill-fits (f .fs) .0, fill-fits (f .ls) .0, fill-fits (f .fs) .1, fill-fits (f .ls) .1)
+
+    pub spans-push : SpansFilling whole rest first₀ (set first n (r .first)) last₀ (set last n (r .last)) (n + 1)
+    spans-push = record { fs = fill-push (f .fs); ls = fill-push (f .ls) }
+
+module _ {whole : List Span} {first₀ first last₀ last : List ℕ} {n : ℕ} (b : Bool) (r : Span) (rest : List Span) (f : SpansFilling whole (consIf b r rest) first₀ first last₀ last n) where
+  maybe-firsts : Filling (firsts whole) (consIf b (r .first) (firsts rest)) first₀ first n
+  maybe-firsts = rw map-consIf at (f .fs)
+
+  maybe-lasts : Filling (lasts whole) (consIf b (r .last) (lasts rest)) last₀ last n
+  maybe-lasts = rw map-consIf at (f .ls)
+
+  pub spans-fitIf : b ≡ true → (n < length first) × (n < length last)
+  spans-fitIf t = (fill-fitsIf b (r .first) _ t maybe-firsts, fill-fitsIf b (r .last) _ t maybe-lasts)
+
+  pub spans-pushed : {first' last' : List ℕ} {n' : ℕ} → Pushed b (r .first) n first first' n' × Pushed b (r .last) n last last' n' → SpansFilling whole rest first₀ first' last₀ last' n'
+  spans-pushed p = record { fs = fill-pushed b (r .first) maybe-firsts (p .0); ls = fill-pushed b (r .last) maybe-lasts (p .1) }
+
+pub spans-end : {whole : List Span} {first₀ first last₀ last : List ℕ} {n : ℕ} → SpansFilling whole [] first₀ first last₀ last n → SpansListed whole first₀ first last₀ last n
+spans-end f = (fill-end (f .fs), fill-end (f .ls))

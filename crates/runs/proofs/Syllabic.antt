@@ -7,18 +7,18 @@ use mathlib.Core.Path.{_≡_, refl, sym, ap, _∙_}
 use mathlib.Core.Bool.{Bool, true, false, not, cond}
 use mathlib.Core.List.{List, [], _∷_}
 use mathlib.Core.Logic.{inl, inr}
-use lib.ListN.{length, getD, set, drop, length-map, length-drop}
+use lib.ListN.{length, getD, set, drop, length-drop}
 use lib.Ieee.{Float}
-use Rattle.lists.specs.Results.{Listed, consIf, filter}
+use Rattle.lists.specs.Results.{consIf, filter}
 use Rattle.lists.specs.By.{Each, Some}
-use Rattle.lists.proofs.Fill.{Filling, fill-start, fill-push, fill-fits, fill-end}
 use Rattle.lists.proofs.Entries.{each-map}
-use Rattle.runs.specs.Grouped.{attach, grouped, Unions}
-use Rattle.runs.specs.Runs.{Span, longRuns, spans, firsts, lasts, Spaced}
-use Rattle.runs.specs.Syllables.{breaksFrom, unbroken, across, syllablesOf, syllableRuns, Gap, gaps, dropoutsOf, dropouts, befores, afters}
-use Rattle.runs.proofs.Grouping.{Joins, attach-join, attach-cut, grouped-unions}
+use Rattle.lists.specs.Grouped.{attach, grouped, Unions}
+use Rattle.runs.specs.Runs.{Span, longRuns, spans, Spaced, SpansListed}
+use Rattle.runs.specs.Syllables.{breaksFrom, unbroken, across, syllablesOf, syllableRuns, gap, gaps, dropoutsOf, dropouts}
+use Rattle.runs.specs.Ahead.{oneOf, OneSyllable}
+use Rattle.lists.proofs.Grouping.{Joins, attach-join, attach-cut, grouped-unions}
 use Rattle.runs.proofs.Spacing.{grouped-spaced, long-spaced, long-few}
-use Rattle.runs.proofs.Spans.{length-spans, runAt, spansFrom, spans-step, spans-over}
+use Rattle.runs.proofs.Spans.{length-spans, runAt, spansFrom, spans-step, spans-over, SpansFilling, spans-start, spans-fit, spans-push, spans-end}
 
 -- ---- one syllable run
 module _ (pitch : List Float) where
@@ -42,7 +42,7 @@ module _ (pitch : List Float) where
     where
       go : (b : Bool) → breaksFrom pitch (r .last) (s .first) ≡ b → length (syllablesOf pitch (s ∷ rs)) + length (dropoutsOf pitch (s ∷ rs)) ≡ suc (length rs) →
           length (syllablesOf pitch (across r s ∷ rs)) + length (dropoutsOf pitch (across r s ∷ rs)) ≡ suc (length rs) →
-          length (attach (unbroken pitch) across r (syllablesOf pitch (s ∷ rs))) + length (consIf (not b) (record { before = r .last; after = s .first }) (dropoutsOf pitch (s ∷ rs))) ≡ suc (suc (length rs))
+          length (attach (unbroken pitch) across r (syllablesOf pitch (s ∷ rs))) + length (consIf (not b) (gap r s) (dropoutsOf pitch (s ∷ rs))) ≡ suc (suc (length rs))
       go true e apart one =
           let a = ap length (attach-cut (unbroken pitch) across spans-join r s rs (rw e)) in
           omega (arith, a, apart)
@@ -60,10 +60,10 @@ module _ (pitch : List Float) where
   dropout-few = omega (arith, syllables-and-dropouts (longRuns pitch), long-few pitch)
 
   -- ---- each dropout lies inside a syllable run
-  abbrev Around : Gap → Span → Type 0
-  Around g s = (s .first ≤ g .before) × (g .after ≤ s .last)
+  abbrev Around : Span → Span → Type 0
+  Around g s = (s .first ≤ g .first) × (g .last ≤ s .last)
 
-  around-first : (lo n : ℕ) (r : Span) (rs : List Span) (g : Gap) → Spaced lo n (r ∷ rs) → Around g r → Some (Around g) (syllablesOf pitch (r ∷ rs))
+  around-first : (lo n : ℕ) (r : Span) (rs : List Span) (g : Span) → Spaced lo n (r ∷ rs) → Around g r → Some (Around g) (syllablesOf pitch (r ∷ rs))
   unfolding syllablesOf grouped attach
   around-first lo n r rs g s a = go (syllablesOf pitch rs) (grouped-spaced pitch (r .last + 4) n rs (s .3))
     where
@@ -86,15 +86,15 @@ module _ (pitch : List Float) where
 
       go : (b : Bool) → breaksFrom pitch (r .last) (q .first) ≡ b → Each (λ g. Some (Around g) (syllablesOf pitch (q ∷ rs))) (dropoutsOf pitch (q ∷ rs)) →
           Each (λ g. Some (Around g) (syllablesOf pitch (across r q ∷ rs))) (dropoutsOf pitch (across r q ∷ rs)) →
-          Each (λ g. Some (Around g) (attach (unbroken pitch) across r (syllablesOf pitch (q ∷ rs)))) (consIf (not b) (record { before = r .last; after = q .first }) (dropoutsOf pitch (q ∷ rs)))
+          Each (λ g. Some (Around g) (attach (unbroken pitch) across r (syllablesOf pitch (q ∷ rs)))) (consIf (not b) (gap r q) (dropoutsOf pitch (q ∷ rs)))
       go true e apart one =
           rw (attach-cut (unbroken pitch) across spans-join r q rs (rw e))
           (each-map (λ g. Some (Around g) (syllablesOf pitch (q ∷ rs))) (λ g. Some (Around g) (r ∷ syllablesOf pitch (q ∷ rs))) (λ g h. inr h) (dropoutsOf pitch (q ∷ rs)) apart)
       go false e apart one =
           rw (attach-join (unbroken pitch) across spans-join r q rs (rw e))
-          (around-first lo n (across r q) rs (record { before = r .last; after = q .first }) one-spaced (s .1, s .3 .1), rw (same-gaps r q rs) at one)
+          (around-first lo n (across r q) rs (gap r q) one-spaced (s .1, s .3 .1), rw (same-gaps r q rs) at one)
 
-  pub dropout-inside : Each (λ g. Some (λ s. (s .first ≤ g .before) × (g .after ≤ s .last)) (syllableRuns pitch)) (dropouts pitch)
+  pub dropout-inside : Each (λ g. Some (λ s. (s .first ≤ g .first) × (g .last ≤ s .last)) (syllableRuns pitch)) (dropouts pitch)
   unfolding syllableRuns dropouts dropoutsOf gaps filter
   dropout-inside = go (longRuns pitch) (long-spaced pitch)
     where
@@ -106,14 +106,10 @@ module _ (pitch : List Float) where
     abbrev pub syllablesFrom : ℕ → List Span
     syllablesFrom k = syllablesOf pitch (spansFrom fs ls k)
 
-    -- the runs k up to end are one
-    abbrev pub oneOf : ℕ → ℕ → Span
-    oneOf k end = record { first = getD fs k 0; last = getD ls (end - 1) 0 }
-
     pub record Joining (k end : ℕ) : Type 0 where
       pub past : k < end
       pub within : end ≤ length fs
-      pub whole : syllablesFrom k ≡ attach (unbroken pitch) across (oneOf k end) (syllablesFrom end)
+      pub whole : syllablesFrom k ≡ attach (unbroken pitch) across (oneOf fs ls k end) (syllablesFrom end)
 
     pub joining-start : length fs ≡ length ls → (k : ℕ) → k < length fs → Joining k (k + 1)
     unfolding syllablesOf grouped
@@ -130,72 +126,71 @@ module _ (pitch : List Float) where
             past = omega (arith, j .past);
             within = omega arith;
             whole = j .whole
-                ∙ ap (λ (rs : List Span). attach (unbroken pitch) across (oneOf k end) (grouped (unbroken pitch) across rs)) (spans-step fs ls end h (omega arith))
-                ∙ attach-join (unbroken pitch) across spans-join (oneOf k end) (runAt fs ls end) (spansFrom fs ls (end + 1)) (rw b)
+                ∙ ap (λ (rs : List Span). attach (unbroken pitch) across (oneOf fs ls k end) (grouped (unbroken pitch) across rs)) (spans-step fs ls end h (omega arith))
+                ∙ attach-join (unbroken pitch) across spans-join (oneOf fs ls k end) (runAt fs ls end) (spansFrom fs ls (end + 1)) (rw b)
                 ∙ rw e;
           }
 
-      pub joining-cut : end < length fs → breaksFrom pitch (getD ls (end - 1) 0) (getD fs end 0) ≡ true → syllablesFrom k ≡ oneOf k end ∷ syllablesFrom end
+      pub joining-cut : end < length fs → breaksFrom pitch (getD ls (end - 1) 0) (getD fs end 0) ≡ true → OneSyllable pitch fs ls k end
       unfolding syllablesOf
       joining-cut h b =
           let s = spans-step fs ls end h (omega arith) in
-          j .whole
-          ∙ ap (λ (rs : List Span). attach (unbroken pitch) across (oneOf k end) (grouped (unbroken pitch) across rs)) s
-          ∙ attach-cut (unbroken pitch) across spans-join (oneOf k end) (runAt fs ls end) (spansFrom fs ls (end + 1)) (rw b)
-          ∙ ap (λ (rs : List Span). oneOf k end ∷ grouped (unbroken pitch) across rs) (sym s)
+          record {
+            past = j .past;
+            within = j .within;
+            split = j .whole
+                ∙ ap (λ (rs : List Span). attach (unbroken pitch) across (oneOf fs ls k end) (grouped (unbroken pitch) across rs)) s
+                ∙ attach-cut (unbroken pitch) across spans-join (oneOf fs ls k end) (runAt fs ls end) (spansFrom fs ls (end + 1)) (rw b)
+                ∙ ap (λ (rs : List Span). oneOf fs ls k end ∷ grouped (unbroken pitch) across rs) (sym s);
+          }
 
-      pub joining-end : length fs ≤ end → syllablesFrom k ≡ oneOf k end ∷ syllablesFrom end
+      pub joining-end : length fs ≤ end → OneSyllable pitch fs ls k end
       unfolding syllablesOf grouped attach
-      joining-end h = j .whole ∙ rw (spans-over fs ls end h)
+      joining-end h = record { past = j .past; within = j .within; split = j .whole ∙ rw (spans-over fs ls end h) }
 
     -- ---- syllable runs, one after the other
     module _ (heads₀ tails₀ : List ℕ) where
       pub record Cutting (heads tails : List ℕ) (n k : ℕ) : Type 0 where
         pub within : k ≤ length fs
-        pub hs : Filling (firsts (syllablesOf pitch (spans fs ls))) (firsts (syllablesFrom k)) heads₀ heads n
-        pub ts : Filling (lasts (syllablesOf pitch (spans fs ls))) (lasts (syllablesFrom k)) tails₀ tails n
+        pub ends : SpansFilling (syllablesOf pitch (spans fs ls)) (syllablesFrom k) heads₀ heads tails₀ tails n
 
       pub cutting-start : length fs ≤ length heads₀ → length fs ≤ length tails₀ → Cutting heads₀ tails₀ 0 0
       cutting-start p q =
           let c = syllables-and-dropouts (spans fs ls) in
           let l = length-spans fs ls in
-          record { within = omega arith; hs = fill-start _ _ (rw length-map (omega arith)); ts = fill-start _ _ (rw length-map (omega arith)) }
+          record { within = omega arith; ends = spans-start _ _ _ (omega arith) (omega arith) }
 
-      module _ {heads tails : List ℕ} {n k : ℕ} (end : ℕ) (e : syllablesFrom k ≡ oneOf k end ∷ syllablesFrom end) (g : Cutting heads tails n k) where
-        hs-now : Filling (firsts (syllablesOf pitch (spans fs ls))) (getD fs k 0 ∷ firsts (syllablesFrom end)) heads₀ heads n
-        hs-now = rw e at (g .hs)
+      module _ {heads tails : List ℕ} {n k : ℕ} (end : ℕ) (e : OneSyllable pitch fs ls k end) (g : Cutting heads tails n k) where
+        now : SpansFilling (syllablesOf pitch (spans fs ls)) (oneOf fs ls k end ∷ syllablesFrom end) heads₀ heads tails₀ tails n
+        now = rw (e .split) at (g .ends)
 
-        ts-now : Filling (lasts (syllablesOf pitch (spans fs ls))) (getD ls (end - 1) 0 ∷ lasts (syllablesFrom end)) tails₀ tails n
-        ts-now = rw e at (g .ts)
+        pub cutting-room : (n < length heads) × (n < length tails) × (length heads ≡ length heads₀) × (length tails ≡ length tails₀)
+        cutting-room = spans-fit now
 
-        pub cutting-room : (n < length heads) × (n < length tails)
-        cutting-room = (fill-fits hs-now .0, fill-fits ts-now .0)
+        pub cutting-on : Cutting (set heads n (getD fs k 0)) (set tails n (getD ls (end - 1) 0)) (n + 1) end
+        cutting-on = record { within = e .within; ends = spans-push now }
 
-        pub cutting-on : end ≤ length fs → Cutting (set heads n (getD fs k 0)) (set tails n (getD ls (end - 1) 0)) (n + 1) end
-        cutting-on h = record { within = h; hs = fill-push hs-now; ts = fill-push ts-now }
-
-      pub cutting-end : {heads tails : List ℕ} {n k : ℕ} → length fs ≤ k → Cutting heads tails n k → (Listed (firsts (syllablesOf pitch (spans fs ls))) heads₀ heads n) × (Listed (lasts (syllablesOf pitch (spans fs ls))) tails₀ tails n)
+      pub cutting-end : {heads tails : List ℕ} {n k : ℕ} → length fs ≤ k → Cutting heads tails n k → SpansListed (syllablesOf pitch (spans fs ls)) heads₀ heads tails₀ tails n
       unfolding syllablesOf grouped
-      cutting-end {heads} {tails} {n} {k} h g = (fill-end (rw (spans-over fs ls k h) at (g .hs)), fill-end (rw (spans-over fs ls k h) at (g .ts)))
+      cutting-end {heads} {tails} {n} {k} h g = spans-end (rw (spans-over fs ls k h) at (g .ends))
 
     -- ---- dropouts, one after the other
-    abbrev pub dropoutsFrom : ℕ → List Gap
+    abbrev pub dropoutsFrom : ℕ → List Span
     dropoutsFrom k = dropoutsOf pitch (spansFrom fs ls k)
 
-    abbrev pub gapAt : ℕ → Gap
-    gapAt i = record { before = getD ls (i - 1) 0; after = getD fs i 0 }
+    abbrev pub gapAt : ℕ → Span
+    gapAt i = record { first = getD ls (i - 1) 0; last = getD fs i 0 }
 
     module _ (before₀ after₀ : List ℕ) where
       pub record Gapping (before after : List ℕ) (n i : ℕ) : Type 0 where
         pub past : 0 < i
-        pub bs : Filling (befores (dropoutsOf pitch (spans fs ls))) (befores (dropoutsFrom (i - 1))) before₀ before n
-        pub zs : Filling (afters (dropoutsOf pitch (spans fs ls))) (afters (dropoutsFrom (i - 1))) after₀ after n
+        pub ends : SpansFilling (dropoutsOf pitch (spans fs ls)) (dropoutsFrom (i - 1)) before₀ before after₀ after n
 
       pub gapping-start : length fs ≤ length before₀ → length fs ≤ length after₀ → Gapping before₀ after₀ 0 1
       gapping-start p q =
           let c = syllables-and-dropouts (spans fs ls) in
           let l = length-spans fs ls in
-          record { past = omega arith; bs = fill-start _ _ (rw length-map (omega arith)); zs = fill-start _ _ (rw length-map (omega arith)) }
+          record { past = omega arith; ends = spans-start _ _ _ (omega arith) (omega arith) }
 
       module _ (same : length fs ≡ length ls) {before after : List ℕ} {n i : ℕ} (g : Gapping before after n i) where
         abbrev kept : Bool
@@ -210,20 +205,17 @@ module _ (pitch : List Float) where
         back : i + 1 - 1 ≡ i
         back = omega arith
 
-        bs-yes : i < length fs → kept ≡ true → Filling (befores (dropoutsOf pitch (spans fs ls))) (getD ls (i - 1) 0 ∷ befores (dropoutsFrom i)) before₀ before n
-        bs-yes h e = rw (next h, e) at (g .bs)
+        here : i < length fs → kept ≡ true → SpansFilling (dropoutsOf pitch (spans fs ls)) (gapAt i ∷ dropoutsFrom i) before₀ before after₀ after n
+        here h e = rw (next h, e) at (g .ends)
 
-        zs-yes : i < length fs → kept ≡ true → Filling (afters (dropoutsOf pitch (spans fs ls))) (getD fs i 0 ∷ afters (dropoutsFrom i)) after₀ after n
-        zs-yes h e = rw (next h, e) at (g .zs)
-
-        pub gapping-room : i < length fs → kept ≡ true → (n < length before) × (n < length after)
-        gapping-room h e = (fill-fits (bs-yes h e) .0, fill-fits (zs-yes h e) .0)
+        pub gapping-room : i < length fs → kept ≡ true → (n < length before) × (n < length after) × (length before ≡ length before₀) × (length after ≡ length after₀)
+        gapping-room h e = spans-fit (here h e)
 
         pub gapping-yes : i < length fs → kept ≡ true → Gapping (set before n (getD ls (i - 1) 0)) (set after n (getD fs i 0)) (n + 1) (i + 1)
-        gapping-yes h e = record { past = omega arith; bs = rw back (fill-push (bs-yes h e)); zs = rw back (fill-push (zs-yes h e)) }
+        gapping-yes h e = record { past = omega arith; ends = rw back (spans-push (here h e)) }
 
         pub gapping-no : i < length fs → kept ≡ false → Gapping before after n (i + 1)
-        gapping-no h e = record { past = omega arith; bs = rw back (rw (next h, e) at (g .bs)); zs = rw back (rw (next h, e) at (g .zs)) }
+        gapping-no h e = record { past = omega arith; ends = rw back (rw (next h, e) at (g .ends)) }
 
         over : length fs ≤ i → dropoutsFrom (i - 1) ≡ []
         unfolding dropoutsOf gaps filter spans
@@ -234,5 +226,5 @@ module _ (pitch : List Float) where
             go (a ∷ []) k = refl
             go (a ∷ b ∷ r) k = absurd (omega arith)
 
-        pub gapping-end : length fs ≤ i → (Listed (befores (dropoutsOf pitch (spans fs ls))) before₀ before n) × (Listed (afters (dropoutsOf pitch (spans fs ls))) after₀ after n)
-        gapping-end h = (fill-end (rw (over h) at (g .bs)), fill-end (rw (over h) at (g .zs)))
+        pub gapping-end : length fs ≤ i → SpansListed (dropoutsOf pitch (spans fs ls)) before₀ before after₀ after n
+        gapping-end h = spans-end (rw (over h) at (g .ends))

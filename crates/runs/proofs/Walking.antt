@@ -8,19 +8,21 @@ use mathlib.Core.Bool.{Bool, true, false, cond}
 use mathlib.Core.List.{List, [], _∷_, map}
 use lib.ListN.{length, getD, set, length-map}
 use lib.Ieee.{Float, nan, ne}
-use lib.Bits.{bitOr, or-add-and, and-le-l, and-le-r}
+use lib.Bits.{bitOr}
 use lib.Dec.{ltb}
 use borrow.Author.Tests.{le-leb, lt-leb, ltb-true, ltb-false}
-use Rattle.lists.specs.Results.{Listed, Pushed, consIf, moreIf, filter}
+use Rattle.lists.specs.Results.{Pushed, consIf, moreIf, filter}
 use Rattle.lists.specs.Sorted.{StrictlyRises}
-use Rattle.lists.proofs.Fill.{Filling, fill-start, fill-push, fill-pushed, fill-fits, fill-fitsIf, fill-end, map-consIf, keep-step, keep-over}
+use Rattle.lists.proofs.Fill.{Filling, fill-start, fill-push, fill-fits, fill-end, map-consIf, keep-step, keep-over}
 use Rattle.lists.proofs.Members.{keep-rises}
+use Rattle.lists.proofs.Counting.{neither}
 use Rattle.runs.specs.declared.voiced.Run.{Run}
-use Rattle.runs.specs.Grouped.{attach, grouped, Unions}
-use Rattle.runs.specs.Runs.{span, none, voiced, voicedFrames, sole, close, joined, voicedRuns, long, longRuns, sizes, firsts, lasts}
+use Rattle.lists.specs.Grouped.{attach, grouped, Unions}
+use Rattle.runs.specs.Runs.{span, none, voiced, voicedFrames, sole, close, joined, voicedRuns, long, longRuns, SpansListed, RunsListed}
 use Rattle.runs.specs.Ahead.{framesFrom, runsFrom, NextVoiced}
-use Rattle.runs.proofs.Grouping.{Joins, attach-join, attach-cut, grouped-unions}
+use Rattle.lists.proofs.Grouping.{Joins, attach-join, attach-cut, grouped-unions}
 use Rattle.runs.proofs.Spacing.{voiced-few, long-few}
+use Rattle.runs.proofs.Spans.{SpansFilling, spans-start, spans-fit, spans-push, spans-fitIf, spans-pushed, spans-end}
 
 pub runs-join : Joins close joined
 runs-join = record {
@@ -40,14 +42,7 @@ module _ (pitch : List Float) where
 
   -- a: whether a frame from j to before k is voiced
   pub none-more : (j k a : ℕ) {r : ℕ} → k < length pitch → r ≡ moreIf (voiced pitch k) 0 → (a ≡ 0 → framesFrom pitch j ≡ framesFrom pitch k) → bitOr a r ≡ 0 → framesFrom pitch j ≡ framesFrom pitch (k + 1)
-  none-more j k a {r} h e f z =
-      let p : a ≡ 0 = omega (arith, z, or-add-and a r, and-le-r a r) in
-      let q : r ≡ 0 = omega (arith, z, or-add-and a r, and-le-l a r) in
-      f p ∙ none-here k h (unvoiced (voiced pitch k) (sym e ∙ q))
-    where
-      unvoiced : (b : Bool) → moreIf b 0 ≡ 0 → b ≡ false
-      unvoiced true g = absurd (omega arith)
-      unvoiced false g = refl
+  none-more j k a h e f z = let n = neither (voiced pitch k) a e z in f (n .0) ∙ none-here k h (n .1)
 
   one-here : (i : ℕ) → i < length pitch → voiced pitch i ≡ true → framesFrom pitch i ≡ i ∷ framesFrom pitch (i + 1)
   one-here i h e = rw (keep-step (voiced pitch) i (length pitch) h, e)
@@ -143,15 +138,13 @@ module _ (pitch : List Float) where
     pub record Running (size₀ first last size : List ℕ) (n i : ℕ) : Type 0 where
       pub within : i ≤ length pitch
       pub here : i < length pitch → voiced pitch i ≡ true
-      pub fs : Filling (firsts (map span (voicedRuns pitch))) (firsts (map span (runsFrom pitch i))) first₀ first n
-      pub ls : Filling (lasts (map span (voicedRuns pitch))) (lasts (map span (runsFrom pitch i))) last₀ last n
-      pub ss : Filling (sizes (voicedRuns pitch)) (sizes (runsFrom pitch i)) size₀ size n
+      pub ends : SpansFilling (map span (voicedRuns pitch)) (map span (runsFrom pitch i)) first₀ first last₀ last n
+      pub sizes : Filling (map (λ (r : Run). r .size) (voicedRuns pitch)) (map (λ (r : Run). r .size) (runsFrom pitch i)) size₀ size n
 
     pub record RunningLong (first last : List ℕ) (n i : ℕ) : Type 0 where
       pub within : i ≤ length pitch
       pub here : i < length pitch → voiced pitch i ≡ true
-      pub fs : Filling (firsts (longRuns pitch)) (firsts (map span (filter long (runsFrom pitch i)))) first₀ first n
-      pub ls : Filling (lasts (longRuns pitch)) (lasts (map span (filter long (runsFrom pitch i)))) last₀ last n
+      pub ends : SpansFilling (longRuns pitch) (map span (filter long (runsFrom pitch i))) first₀ first last₀ last n
 
     module _ (p : length pitch ≤ length first₀) (q : length pitch ≤ length last₀) {i : ℕ} (v : NextVoiced pitch 0 i) where
       at-start : voicedRuns pitch ≡ runsFrom pitch i
@@ -159,64 +152,51 @@ module _ (pitch : List Float) where
 
       pub running-start : (size₀ : List ℕ) → length pitch ≤ length size₀ → Running size₀ first₀ last₀ size₀ 0 i
       running-start size₀ r =
+          let few : length (map span (voicedRuns pitch)) ≤ length pitch = rw length-map (voiced-few pitch) in
           record {
             within = v .within;
             here = v .here;
-            fs = rw (← at-start) (fill-start _ _ (simp length-map (omega (arith, voiced-few pitch))));
-            ls = rw (← at-start) (fill-start _ _ (simp length-map (omega (arith, voiced-few pitch))));
-            ss = rw (← at-start) (fill-start _ _ (simp length-map (omega (arith, voiced-few pitch))));
+            ends = rw (← at-start) (spans-start _ _ _ (omega arith) (omega arith));
+            sizes = rw (← at-start) (fill-start _ _ (rw length-map (omega (arith, voiced-few pitch))));
           }
 
       pub running-long-start : RunningLong first₀ last₀ 0 i
       unfolding longRuns
-      running-long-start =
-          record {
-            within = v .within;
-            here = v .here;
-            fs = rw (← at-start) (fill-start _ _ (rw length-map (omega (arith, long-few pitch))));
-            ls = rw (← at-start) (fill-start _ _ (rw length-map (omega (arith, long-few pitch))));
-          }
+      running-long-start = record { within = v .within; here = v .here; ends = rw (← at-start) (spans-start _ _ _ (omega (arith, long-few pitch)) (omega (arith, long-few pitch))) }
 
     module _ {i : ℕ} (run : Run) (e : runsFrom pitch i ≡ run ∷ runsFrom pitch (run .last + 1)) where
       module _ {size₀ first last size : List ℕ} {n : ℕ} (g : Running size₀ first last size n i) where
-        fs-now : Filling (firsts (map span (voicedRuns pitch))) (run .first ∷ firsts (map span (runsFrom pitch (run .last + 1)))) first₀ first n
-        fs-now = rw e at (g .fs)
+        ends-now : SpansFilling (map span (voicedRuns pitch)) (span run ∷ map span (runsFrom pitch (run .last + 1))) first₀ first last₀ last n
+        ends-now = rw e at (g .ends)
 
-        ls-now : Filling (lasts (map span (voicedRuns pitch))) (run .last ∷ lasts (map span (runsFrom pitch (run .last + 1)))) last₀ last n
-        ls-now = rw e at (g .ls)
-
-        ss-now : Filling (sizes (voicedRuns pitch)) (run .size ∷ sizes (runsFrom pitch (run .last + 1))) size₀ size n
-        ss-now = rw e at (g .ss)
+        sizes-now : Filling (map (λ (r : Run). r .size) (voicedRuns pitch)) (run .size ∷ map (λ (r : Run). r .size) (runsFrom pitch (run .last + 1))) size₀ size n
+        sizes-now = rw e at (g .sizes)
 
         pub running-room : (n < length first) × (n < length last) × (n < length size)
-        running-room = (fill-fits fs-now .0, fill-fits ls-now .0, fill-fits ss-now .0)
+        running-room = (spans-fit ends-now .0, spans-fit ends-now .1, fill-fits sizes-now .0)
 
         pub running-on : {i' : ℕ} → NextVoiced pitch (run .last + 1) i' → Running size₀ (set first n (run .first)) (set last n (run .last)) (set size n (run .size)) (n + 1) i'
         running-on {i'} v =
             let s = runs-same (run .last + 1) i' (v .same) in
-            record { within = v .within; here = v .here; fs = rw s at (fill-push fs-now); ls = rw s at (fill-push ls-now); ss = rw s at (fill-push ss-now) }
+            record { within = v .within; here = v .here; ends = rw s at (spans-push ends-now); sizes = rw s at (fill-push sizes-now) }
 
       module _ {first last : List ℕ} {n : ℕ} (g : RunningLong first last n i) where
-        fs-next : Filling (firsts (longRuns pitch)) (consIf (long run) (run .first) (firsts (map span (filter long (runsFrom pitch (run .last + 1)))))) first₀ first n
+        ends-next : SpansFilling (longRuns pitch) (consIf (long run) (span run) (map span (filter long (runsFrom pitch (run .last + 1))))) first₀ first last₀ last n
         unfolding filter
-        fs-next = simp (e, map-consIf) at (g .fs)
-
-        ls-next : Filling (lasts (longRuns pitch)) (consIf (long run) (run .last) (lasts (map span (filter long (runsFrom pitch (run .last + 1)))))) last₀ last n
-        unfolding filter
-        ls-next = simp (e, map-consIf) at (g .ls)
+        ends-next = simp (e, map-consIf) at (g .ends)
 
         pub running-long-room : long run ≡ true → (n < length first) × (n < length last)
-        running-long-room t = (fill-fitsIf (long run) (run .first) _ t fs-next, fill-fitsIf (long run) (run .last) _ t ls-next)
+        running-long-room = spans-fitIf (long run) (span run) _ ends-next
 
         pub running-long-on : {first' last' : List ℕ} {n' i' : ℕ} → Pushed (long run) (run .first) n first first' n' × Pushed (long run) (run .last) n last last' n' → NextVoiced pitch (run .last + 1) i' → RunningLong first' last' n' i'
-        running-long-on {first'} {last'} {n'} {i'} p v =
-            let s = runs-same (run .last + 1) i' (v .same) in
-            record { within = v .within; here = v .here; fs = rw s at (fill-pushed (long run) (run .first) fs-next (p .0)); ls = rw s at (fill-pushed (long run) (run .last) ls-next (p .1)) }
+        running-long-on {first'} {last'} {n'} {i'} p v = record { within = v .within; here = v .here; ends = rw (runs-same (run .last + 1) i' (v .same)) at (spans-pushed (long run) (span run) _ ends-next p) }
 
     module _ {first last : List ℕ} {n i : ℕ} (h : length pitch ≤ i) where
-      pub running-end : {size₀ size : List ℕ} → Running size₀ first last size n i → (Listed (firsts (map span (voicedRuns pitch))) first₀ first n) × (Listed (lasts (map span (voicedRuns pitch))) last₀ last n) × (Listed (sizes (voicedRuns pitch)) size₀ size n)
-      running-end g = (fill-end (rw (runs-over i h) at (g .fs)), fill-end (rw (runs-over i h) at (g .ls)), fill-end (rw (runs-over i h) at (g .ss)))
+      pub running-end : {size₀ size : List ℕ} → Running size₀ first last size n i → RunsListed (voicedRuns pitch) first₀ first last₀ last size₀ size n
+      running-end g =
+          let s = spans-end (rw (runs-over i h) at (g .ends)) in
+          (s .0, s .1, fill-end (rw (runs-over i h) at (g .sizes)))
 
-      pub running-long-end : RunningLong first last n i → (Listed (firsts (longRuns pitch)) first₀ first n) × (Listed (lasts (longRuns pitch)) last₀ last n)
+      pub running-long-end : RunningLong first last n i → SpansListed (longRuns pitch) first₀ first last₀ last n
       unfolding filter
-      running-long-end g = (fill-end (rw (runs-over i h) at (g .fs)), fill-end (rw (runs-over i h) at (g .ls)))
+      running-long-end g = spans-end (rw (runs-over i h) at (g .ends))

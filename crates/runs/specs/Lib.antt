@@ -1,5 +1,4 @@
-pub mod Grouped
 pub mod Runs
-pub mod Ahead
 pub mod Syllables
 pub mod Near
+pub mod Ahead

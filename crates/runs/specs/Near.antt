@@ -1,7 +1,7 @@
 -- Which run a frame belongs to. Definitions only.
 use Prim.Native.Nat.{ℕ, _+_, _-_, _≤_, _<_, max}
 use mathlib.Core.Path.{_≡_}
-use mathlib.Core.Bool.{Bool, false, not, cond}
+use mathlib.Core.Bool.{Bool, true, false, not, cond}
 use mathlib.Core.List.{List, [], _∷_, _++_}
 use lib.Dec.{ltb, eqb}
 use lib.ListN.{length}
@@ -25,6 +25,16 @@ nearest at k d best (r ∷ rs) =
 unfoldable pub runOf : List Span → ℕ → Found
 runOf rs at = nearest at 0 3 Nothing rs
 
+-- a run is found
+abbrev pub found : Found → Bool
+found (At k first last) = true
+found Nothing = false
+
+-- the number of the run that is found
+abbrev pub numberOf : Found → ℕ
+numberOf (At k first last) = k
+numberOf Nothing = 0
+
 -- two different runs are found
 abbrev pub differ : Found → Found → Bool
 differ (At x f l) (At y g m) = not (eqb x y)
@@ -35,6 +45,7 @@ differ Nothing f = false
 unfoldable pub separate : List Span → ℕ → ℕ → Bool
 separate rs a b = differ (runOf rs a) (runOf rs b)
 
+-- ---- what is found, without the search
 -- r, the k-th of the runs, is within 2 frames; no run before it is as near, and none after it is nearer
 pub record Nearest (at : ℕ) (rs : List Span) (k : ℕ) (r : Span) : Type 0 where
   pub earlier : List Span

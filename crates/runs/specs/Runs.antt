@@ -1,13 +1,14 @@
 -- The voiced frames of a pitch track, and the runs that they make. Definitions only.
 use Prim.Native.Nat.{ℕ, _+_, _-_, _≤_, _<_}
+use mathlib.Core.Path.{_≡_}
 use mathlib.Core.Bool.{Bool}
 use mathlib.Core.List.{List, [], _∷_, map}
 use lib.ListN.{length, getD}
 use lib.Dec.{leb}
 use lib.Ieee.{Float, nan, binary32, ofBits, ne}
-use Rattle.lists.specs.Results.{keep, filter}
+use Rattle.lists.specs.Results.{Listed, keep, filter}
 use Rattle.lists.specs.By.{Each}
-use Rattle.runs.specs.Grouped.{grouped}
+use Rattle.lists.specs.Grouped.{grouped}
 use Rattle.runs.specs.declared.voiced.Run.{Run}
 
 -- no pitch
@@ -55,10 +56,16 @@ span r = record { first = r .first; last = r .last }
 unfoldable pub longRuns : List Float → List Span
 longRuns pitch = map span (filter long (voicedRuns pitch))
 
--- how many voiced frames the runs have
-abbrev pub sizes : List Run → List ℕ
-sizes = map (λ (r : Run). r .size)
+-- the runs lie in a track of n frames
+abbrev pub Within : ℕ → List Span → Type 0
+Within n = Each (λ r. (r .first ≤ r .last) × (r .last < n))
 
+-- runs of a track of n frames, from frame lo on, in order, each more than 3 frames after the one before it
+abbrev pub Spaced : ℕ → ℕ → List Span → Type 0
+Spaced lo n [] = Unit
+Spaced lo n (r ∷ rs) = (lo ≤ r .first) × (r .first ≤ r .last) × (r .last < n) × Spaced (r .last + 4) n rs
+
+-- ---- runs as two lists, of their first and of their last frames
 -- the first frames of runs
 abbrev pub firsts : List Span → List ℕ
 firsts = map (λ (r : Span). r .first)
@@ -73,11 +80,22 @@ spans [] ls = []
 spans (f ∷ fs) [] = []
 spans (f ∷ fs) (l ∷ ls) = record { first = f; last = l } ∷ spans fs ls
 
--- the runs lie in a track of n frames
-abbrev pub Within : ℕ → List Span → Type 0
-Within n = Each (λ r. (r .first ≤ r .last) × (r .last < n))
+-- two lists lent as runs: as many first frames as last ones, no more than a track has
+abbrev pub SpansLent : List ℕ → List ℕ → Type 0
+SpansLent first last = (length first ≡ length last) × (length first ≤ 2048)
 
--- runs of a track of n frames, from frame lo on, in order, each more than 3 frames after the one before it
-abbrev pub Spaced : ℕ → ℕ → List Span → Type 0
-Spaced lo n [] = Unit
-Spaced lo n (r ∷ rs) = (lo ≤ r .first) × (r .first ≤ r .last) × (r .last < n) × Spaced (r .last + 4) n rs
+-- two lists lent as runs of a track of n frames
+abbrev pub SpansIn : ℕ → List ℕ → List ℕ → Type 0
+SpansIn n first last = (length first ≡ length last) × Within n (spans first last)
+
+-- a track of at most 2,048 frames, and two lists with an entry at least for each of them
+abbrev pub RoomOfTwo : {A B C : Type 0} → List A → List B → List C → Type 0
+RoomOfTwo track xs ys = (length track ≤ 2048) × (length track ≤ length xs) × (length track ≤ length ys)
+
+-- what a call leaves that writes runs to two lists, and returns their count r
+abbrev pub SpansListed : List Span → List ℕ → List ℕ → List ℕ → List ℕ → ℕ → Type 0
+SpansListed rs oldFirst first oldLast last r = Listed (firsts rs) oldFirst first r × Listed (lasts rs) oldLast last r
+
+-- the same of voiced runs, with how many voiced frames they have
+abbrev pub RunsListed : List Run → List ℕ → List ℕ → List ℕ → List ℕ → List ℕ → List ℕ → ℕ → Type 0
+RunsListed rs oldFirst first oldLast last oldSize size r = Listed (firsts (map span rs)) oldFirst first r × Listed (lasts (map span rs)) oldLast last r × Listed (map (λ (s : Run). s .size) rs) oldSize size r

@@ -1,12 +1,12 @@
 -- Syllable runs: long runs, grouped unless the pitch breaks; and the gaps inside them. Definitions only.
 use Prim.Native.Nat.{ℕ}
 use mathlib.Core.Bool.{Bool, not}
-use mathlib.Core.List.{List, [], _∷_, map}
+use mathlib.Core.List.{List, [], _∷_}
 use lib.ListN.{getD}
 use lib.Ieee.{Float, nan}
 use Rattle.powers.specs.Pitch.{pitchOf, breaksBetween}
 use Rattle.lists.specs.Results.{filter}
-use Rattle.runs.specs.Grouped.{grouped}
+use Rattle.lists.specs.Grouped.{grouped}
 use Rattle.runs.specs.Runs.{Span, longRuns}
 
 -- the pitch moves 3 semitones or more from frame a to frame b; never where one of the two has no pitch of 20 to 4000 Hz
@@ -29,29 +29,20 @@ syllablesOf pitch rs = grouped (unbroken pitch) across rs
 unfoldable pub syllableRuns : List Float → List Span
 syllableRuns pitch = syllablesOf pitch (longRuns pitch)
 
--- a gap between two runs, by the frames that it lies between
-pub record Gap : Type 0 where
-  pub before : ℕ
-  pub after : ℕ
+-- the gap between two runs, by the frames that it lies between: from the last of the one to the first of the other
+abbrev pub gap : Span → Span → Span
+gap r s = record { first = r .last; last = s .first }
 
 -- the gaps between neighbouring runs
-unfoldable pub gaps : List Span → List Gap
+unfoldable pub gaps : List Span → List Span
 gaps [] = []
 gaps (r ∷ []) = []
-gaps (r ∷ s ∷ rs) = record { before = r .last; after = s .first } ∷ gaps (s ∷ rs)
+gaps (r ∷ s ∷ rs) = gap r s ∷ gaps (s ∷ rs)
 
 -- the gaps between runs that the pitch does not break across
-unfoldable pub dropoutsOf : List Float → List Span → List Gap
-dropoutsOf pitch rs = filter (λ (g : Gap). not (breaksFrom pitch (g .before) (g .after))) (gaps rs)
+unfoldable pub dropoutsOf : List Float → List Span → List Span
+dropoutsOf pitch rs = filter (λ (g : Span). not (breaksFrom pitch (g .first) (g .last))) (gaps rs)
 
 -- the dropouts, in order: the gaps inside syllable runs
-unfoldable pub dropouts : List Float → List Gap
+unfoldable pub dropouts : List Float → List Span
 dropouts pitch = dropoutsOf pitch (longRuns pitch)
-
--- the frames before gaps
-abbrev pub befores : List Gap → List ℕ
-befores = map (λ (g : Gap). g .before)
-
--- the frames after gaps
-abbrev pub afters : List Gap → List ℕ
-afters = map (λ (g : Gap). g .after)

@@ -1,18 +1,19 @@
 // The voiced frames of a pitch track, in which 0 is no pitch, and the runs that they make.
+use lists::sizes::smaller;
 ghost use mathlib.Core.Path.{_≡_};
 ghost use mathlib.Core.Bool.{true, cond};
-ghost use mathlib.Core.List.{_∷_, map};
+ghost use mathlib.Core.List.{_∷_};
 ghost use Prim.Native.Nat.{_+_, _≤_, _<_, min};
 ghost use lib.ListN.{length};
 ghost use lib.Ieee.{ne};
-ghost use Rattle.lists.specs.Results.{Listed, Pushed, moreIf};
-ghost use Rattle.runs.specs.Runs.{none, voiced, voicedFrames, sole, joined, voicedRuns, long, span, longRuns, sizes, firsts, lasts};
+ghost use Rattle.lists.specs.Results.{Pushed, moreIf};
+ghost use Rattle.runs.specs.Runs.{none, voiced, sole, joined, voicedRuns, long, longRuns, RoomOfTwo, SpansListed, RunsListed};
 ghost use Rattle.runs.specs.Ahead.{framesFrom, runsFrom, NextVoiced};
 
 // Two voiced frames that are at most this far apart share a run.
 const MAX_STEP: usize = 3;
 // A run with at least this many voiced frames is long.
-const MIN_RUN_FRAMES: u32 = 5;
+pub const MIN_RUN_FRAMES: u32 = 5;
 // How many frames are looked at together.
 const BLOCK: usize = 16;
 
@@ -21,23 +22,6 @@ pub struct Run {
     pub first: u32,
     pub last: u32,
     pub size: u32,
-}
-
-// Writes the voiced frames, in order, and returns how many they are: 0 in a track with no pitch.
-pub fn voiced_frames(pitch: &[f32], out: &mut [u32]) -> usize
-    requires { ⌜ (length (now pitch) ≤ 2048) × (length (now pitch) ≤ length (now out)) ⌝ }
-    ensures { λ r. ⌜ Listed (voicedFrames (now (pitch .entry))) (now (out .entry)) (now (out .exit)) r ⌝ }
-{
-    let mut n: usize = 0;
-    let mut i: usize = 0;
-    while i < pitch.len() {
-        if pitch[i] != 0.0 {
-            out[n] = i as u32;
-            n += 1;
-        }
-        i += 1;
-    }
-    n
 }
 
 // 1 where there is a pitch, else 0.
@@ -65,7 +49,8 @@ fn voices(pitch: &[f32], j: usize) -> u32
 // A frame with no voiced one before it from i on: where the whole blocks without any end.
 fn skip_blocks(pitch: &[f32], i: usize) -> usize
     requires { ⌜ i ≤ length (now pitch) ⌝ }
-    ensures { λ r. ⌜ (i ≤ r) × (r ≤ length (now (pitch .entry))) × (framesFrom (now (pitch .entry)) i ≡ framesFrom (now (pitch .entry)) r) ⌝ }
+    ensures { λ r. ⌜ (i ≤ r) × (r ≤ length (now (pitch .entry)))
+        × (framesFrom (now (pitch .entry)) i ≡ framesFrom (now (pitch .entry)) r) ⌝ }
 {
     let mut at = i;
     while BLOCK <= pitch.len() - at {
@@ -96,8 +81,7 @@ fn next_voiced(pitch: &[f32], i: usize) -> usize
 fn reach(run: Run, n: usize) -> usize
     ensures { λ r. ⌜ r ≡ min (run .last + 4) n ⌝ }
 {
-    let end = run.last as usize + MAX_STEP + 1;
-    if end < n { end } else { n }
+    smaller(run.last as usize + MAX_STEP + 1, n)
 }
 
 // The run with frame f, if that has a pitch; else the run as it is.
@@ -119,7 +103,8 @@ fn extended(run: Run, hz: f32, f: u32) -> Run
 // The voiced run that begins with the voiced frame f.
 fn run_from(pitch: &[f32], f: usize) -> Run
     requires { ⌜ (length (now pitch) ≤ 2048) × (f < length (now pitch)) × (voiced (now pitch) f ≡ true) ⌝ }
-    ensures { λ r. ⌜ (runsFrom (now (pitch .entry)) f ≡ r ∷ runsFrom (now (pitch .entry)) (r .last + 1)) × (f ≤ r .last) × (r .last < length (now (pitch .entry))) ⌝ }
+    ensures { λ r. ⌜ (runsFrom (now (pitch .entry)) f ≡ r ∷ runsFrom (now (pitch .entry)) (r .last + 1)) × (f ≤ r .last)
+        × (r .last < length (now (pitch .entry))) ⌝ }
 {
     let mut run = Run {
         first: f as u32,
@@ -136,10 +121,13 @@ fn run_from(pitch: &[f32], f: usize) -> Run
     run
 }
 
-// Writes the voiced runs, in order: their first frames, their last frames and how many voiced frames they have. Returns how many runs there are.
+// Writes the voiced runs, in order: their first frames, their last frames and how many voiced frames they have. Returns how
+// many runs there are.
 pub fn voiced_runs(pitch: &[f32], first: &mut [u32], last: &mut [u32], size: &mut [u32]) -> usize
-    requires { ⌜ (length (now pitch) ≤ 2048) × (length (now pitch) ≤ length (now first)) × (length (now pitch) ≤ length (now last)) × (length (now pitch) ≤ length (now size)) ⌝ }
-    ensures { λ r. ⌜ (Listed (firsts (map span (voicedRuns (now (pitch .entry))))) (now (first .entry)) (now (first .exit)) r) × (Listed (lasts (map span (voicedRuns (now (pitch .entry))))) (now (last .entry)) (now (last .exit)) r) × (Listed (sizes (voicedRuns (now (pitch .entry)))) (now (size .entry)) (now (size .exit)) r) ⌝ }
+    requires { ⌜ RoomOfTwo (now pitch) (now first) (now last) ⌝ }
+    requires { ⌜ length (now pitch) ≤ length (now size) ⌝ }
+    ensures { λ r. ⌜ RunsListed (voicedRuns (now (pitch .entry))) (now (first .entry)) (now (first .exit)) (now (last .entry))
+        (now (last .exit)) (now (size .entry)) (now (size .exit)) r ⌝ }
 {
     let mut n: usize = 0;
     let mut i = next_voiced(pitch, 0);
@@ -157,7 +145,8 @@ pub fn voiced_runs(pitch: &[f32], first: &mut [u32], last: &mut [u32], size: &mu
 // Writes a run at the count n, if it is long, and returns the new count.
 fn push_long(run: Run, first: &mut [u32], last: &mut [u32], n: usize) -> usize
     requires { ⌜ (long run ≡ true → (n < length (now first)) × (n < length (now last))) ⌝ }
-    ensures { λ r. ⌜ (Pushed (long run) (run .first) n (now (first .entry)) (now (first .exit)) r) × (Pushed (long run) (run .last) n (now (last .entry)) (now (last .exit)) r) ⌝ }
+    ensures { λ r. ⌜ (Pushed (long run) (run .first) n (now (first .entry)) (now (first .exit)) r)
+        × (Pushed (long run) (run .last) n (now (last .entry)) (now (last .exit)) r) ⌝ }
 {
     if MIN_RUN_FRAMES <= run.size {
         first[n] = run.first;
@@ -170,8 +159,9 @@ fn push_long(run: Run, first: &mut [u32], last: &mut [u32], n: usize) -> usize
 
 // Writes the first and last frames of the long runs, in order, and returns how many they are.
 pub fn long_runs(pitch: &[f32], first: &mut [u32], last: &mut [u32]) -> usize
-    requires { ⌜ (length (now pitch) ≤ 2048) × (length (now pitch) ≤ length (now first)) × (length (now pitch) ≤ length (now last)) ⌝ }
-    ensures { λ r. ⌜ (Listed (firsts (longRuns (now (pitch .entry)))) (now (first .entry)) (now (first .exit)) r) × (Listed (lasts (longRuns (now (pitch .entry)))) (now (last .entry)) (now (last .exit)) r) ⌝ }
+    requires { ⌜ RoomOfTwo (now pitch) (now first) (now last) ⌝ }
+    ensures { λ r. ⌜ SpansListed (longRuns (now (pitch .entry))) (now (first .entry)) (now (first .exit)) (now (last .entry))
+        (now (last .exit)) r ⌝ }
 {
     let mut n: usize = 0;
     let mut i = next_voiced(pitch, 0);

@@ -4,21 +4,14 @@ use mathlib.Core.Bool.{Bool, true, false, cond}
 use mathlib.Core.List.{List}
 use Prim.Native.Nat.{ℕ, _+_, _≤_, _<_, min, max}
 use native.Mathlib.Omega.{arith}
-use lib.Dec.{leb, ltb}
+use lib.Dec.{ltb}
 use lib.ListN.{length, drop, getD, drop-of-length-le}
-use Rattle.lists.specs.Results.{moreIf, consIf, filter}
+use Rattle.lists.specs.Results.{consIf, filter}
 use Rattle.lists.proofs.Fill.{drop-step, filter-step, filter-over}
-use Rattle.select.specs.Order.{atMost, lowest, highest, lowestAbove}
+use Rattle.select.specs.Order.{lowest, highest, lowestAbove}
 
 -- ---- one step, at the entry k
 module _ (l : List ℕ) (i : ℕ) (h : i < length l) where
-  pub count-step : (x n : ℕ) → n + atMost x (drop i l) ≡ n + moreIf (leb (getD l i 0) x) 0 + atMost x (drop (i + 1) l)
-  count-step x n = rw (drop-step l i 0 h) (go (leb (getD l i 0) x) (atMost x (drop (i + 1) l)))
-    where
-      go : (b : Bool) (m : ℕ) → n + moreIf b m ≡ n + moreIf b 0 + m
-      go true m = omega arith
-      go false m = omega arith
-
   pub lowest-step : (b : ℕ) → min b (lowest (drop i l)) ≡ min (min (getD l i 0) b) (lowest (drop (i + 1) l))
   lowest-step b = rw (drop-step l i 0 h) (omega arith)
 
@@ -35,9 +28,6 @@ module _ (l : List ℕ) (i : ℕ) (h : i < length l) where
 
 -- ---- the end
 module _ (l : List ℕ) (i : ℕ) (h : length l ≤ i) where
-  pub count-end : (x n : ℕ) → n + atMost x (drop i l) ≡ n
-  count-end x n = rw (drop-of-length-le l h) (omega arith)
-
   pub lowest-end : (b : ℕ) → b ≤ 4294967295 → min b (lowest (drop i l)) ≡ b
   lowest-end b q = rw (drop-of-length-le l h) (omega arith)
 

@@ -1,4 +1,4 @@
--- How many entries of a list are at most a number, and its smallest and largest entries. Definitions only.
+-- Scaffolding of the code's loops: how many entries of a list are at most a number, and its smallest and largest entries. Definitions only.
 use Prim.Native.Nat.{ℕ, min, max}
 use mathlib.Core.List.{List, [], _∷_}
 use lib.Dec.{leb, ltb}

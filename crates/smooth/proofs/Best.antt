@@ -6,7 +6,7 @@ use native.Mathlib.Nat.{add-zero, eq-or-lt-of-le}
 use native.Mathlib.Numerals.{add-one}
 use native.Mathlib.Omega.{arith}
 use mathlib.Core.Path.{_≡_, refl, sym, ap, _∙_}
-use mathlib.Core.Bool.{Bool, true, false, not, _||_, cond, true≢false}
+use mathlib.Core.Bool.{Bool, true, false, not, _||_, cond, or-false, or-assoc, true≢false}
 use mathlib.Core.List.{List, _∷_, foldl}
 use mathlib.Core.Logic.{⊎-elim}
 use borrow.Author.Tests.{not-true, not-false}
@@ -15,7 +15,10 @@ use lib.Seq.{slice, slice-cons, slice-empty}
 use lib.Ieee.{Float, nan, inf, fin, lt, eq, isNan}
 use Rattle.smooth.specs.declared.extrema.Extremum.{Extremum}
 use Rattle.smooth.specs.declared.extrema.Extremum.the-variants.{Max, Min}
-use Rattle.smooth.specs.Extrema.{at, beyond, further, unreached, furthest, someFrame, firstFrame, unbeaten, firstBest, flatLast, middle, extremumMiddle}
+use Rattle.lists.specs.Frames.{at, someFrame}
+use Rattle.smooth.specs.Extrema.{beyond, further, unreached, furthest, unbeaten, firstBest, flatLast, middle, extremumMiddle}
+use Rattle.lists.proofs.Tests.{not-holds}
+use Rattle.lists.proofs.Walks.{First, first-is, some-at}
 use Rattle.smooth.proofs.Order.{beyond-trans, beyond-from, beyond-itself, beyond-number}
 
 -- ---- the furthest value
@@ -59,10 +62,6 @@ module _ (kind : Extremum) where
         beyond kind (foldl (further kind) m (slice i (i + k) s)) v ≡ (beyond kind m v || someFrame (λ j. beyond kind (at s j) v) i k)
     unfolding someFrame
     beyond-some v m i zero l h = rw (add-zero i, slice-empty i s) (sym (or-false (beyond kind m v)))
-      where
-        or-false : (b : Bool) → (b || false) ≡ b
-        or-false true = refl
-        or-false false = refl
     beyond-some v m i (suc k) l h =
         let e : i + suc k ≡ i + 1 + k = omega arith in
         let x = at s i in
@@ -70,11 +69,7 @@ module _ (kind : Extremum) where
         ∙ ap (λ (r : List Float). beyond kind (foldl (further kind) m r) v) (slice-cons i (i + 1 + k) s nan (omega arith) (omega arith) ∙ ap (λ (n : ℕ). x ∷ slice n (i + 1 + k) s) (sym (add-one i)))
         ∙ beyond-some v (further kind m x) (i + 1) k (omega arith) (further-number m x h)
         ∙ ap (λ (c : Bool). c || someFrame (λ j. beyond kind (at s j) v) (i + 1) k) (further-beyond m x v h)
-        ∙ regroup (beyond kind m v) (beyond kind x v) (someFrame (λ j. beyond kind (at s j) v) (i + 1) k)
-      where
-        regroup : (a b c : Bool) → ((a || b) || c) ≡ (a || (b || c))
-        regroup true b c = refl
-        regroup false b c = refl
+        ∙ or-assoc (beyond kind m v) (beyond kind x v) (someFrame (λ j. beyond kind (at s j) v) (i + 1) k)
 
     -- a value from which every frame is beaten is the one that the walk began with
     all-beaten : (far m : Float) (i k : ℕ) → i + k ≤ length s → far ≡ foldl (further kind) m (slice i (i + k) s) → ((j : ℕ) → i ≤ j → j < i + k → beyond kind far (at s j) ≡ true) → far ≡ m
@@ -102,36 +97,9 @@ module _ (kind : Extremum) where
       go Min (inf s) = refl
       go Min (fin s m e) = refl
 
--- ---- the first frame that passes
-pub record First (t : ℕ → Bool) (i k r : ℕ) : Type 0 where
-  pub low : i ≤ r
-  pub high : r ≤ i + k
-  pub before : (j : ℕ) → i ≤ j → j < r → t j ≡ false
-  pub here : r < i + k → t r ≡ true
-
-first-is : (t : ℕ → Bool) (i k : ℕ) → First t i k (firstFrame t i k)
-unfolding firstFrame
-first-is t i zero = record { low = omega arith; high = omega arith; before = λ j p q. absurd (omega arith); here = λ h. absurd (omega arith) }
-first-is t i (suc k) = go (t i) refl (first-is t (i + 1) k)
-  where
-    go : (b : Bool) → t i ≡ b → First t (i + 1) k (firstFrame t (i + 1) k) → First t i (suc k) (cond b i (firstFrame t (i + 1) k))
-    go true e f = record { low = omega arith; high = omega arith; before = λ j p q. absurd (omega arith); here = λ h. e }
-    go false e f =
-        record {
-          low = omega (arith, f .low);
-          high = omega (arith, f .high);
-          before = λ j p q. ⊎-elim (λ d. rw d at e) (λ d. f .before j (omega arith) q) (eq-or-lt-of-le p);
-          here = λ h. f .here (omega arith);
-        }
-
+-- ---- the first best frame
 some-none : (t : ℕ → Bool) (i k : ℕ) → someFrame t i k ≡ false → (j : ℕ) → i ≤ j → j < i + k → t j ≡ false
-unfolding someFrame
-some-none t i zero e j p q = absurd (omega arith)
-some-none t i (suc k) e j p q = go (t i) refl e (λ d c. some-none t (i + 1) k d j c (omega arith))
-  where
-    go : (b : Bool) → t i ≡ b → (b || someFrame t (i + 1) k) ≡ false → (someFrame t (i + 1) k ≡ false → i + 1 ≤ j → t j ≡ false) → t j ≡ false
-    go true d e r = absurd (true≢false e)
-    go false d e r = ⊎-elim (λ f. rw f at d) (λ f. r e (omega arith)) (eq-or-lt-of-le p)
+some-none t i k e j p q = not-holds (t j) (λ h. true≢false (sym (some-at t i k j p q h) ∙ e))
 
 module _ (kind : Extremum) (s : List Float) (a b : ℕ) (h : a ≤ b) (l : b < length s) where
   far : Float

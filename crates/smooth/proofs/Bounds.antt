@@ -7,7 +7,7 @@ use mathlib.Core.Path.{_≡_, refl, ap, subst}
 use mathlib.Core.Bool.{true, false, true≢false}
 use mathlib.Core.List.{List, [], _∷_, map, foldl}
 use lib.IntN.{ℤ, pos}
-use lib.ListN.{length, take, drop, length-map}
+use lib.ListN.{length, take, length-map}
 use lib.Seq.{slice, length-slice}
 use lib.Ieee.{Float, nan, inf, fin, binary32, add, div, ofInt, isNan}
 use lib.Ieee.Scale.{finite}
@@ -16,22 +16,12 @@ use Rattle.floats.specs.Sizes.{Within}
 use Rattle.floats.proofs.Numbers.{add-number, div-whole-number}
 use Rattle.floats.proofs.Sizes.{add-within, div-within}
 use Rattle.lists.specs.By.{Each}
+use Rattle.lists.proofs.Parts.{each-take, each-drop}
 use Rattle.smooth.specs.Level.{clean, window, sumOf, levelAt}
 
 -- ---- the frames of a window
-module _ {A : Type 0} (P : A → Type 0) where
-  each-take : (n : ℕ) (l : List A) → Each P l → Each P (take n l)
-  each-take zero l h = tt
-  each-take (suc n) [] h = tt
-  each-take (suc n) (x ∷ l) h = (h .0, each-take n l (h .1))
-
-  each-drop : (n : ℕ) (l : List A) → Each P l → Each P (drop n l)
-  each-drop zero l h = h
-  each-drop (suc n) [] h = tt
-  each-drop (suc n) (x ∷ l) h = each-drop n l (h .1)
-
-  in-window : (l : List A) (a b : ℕ) → Each P l → Each P (slice a b l)
-  in-window l a b h = each-drop a (take b l) (each-take b l h)
+in-window : {A : Type 0} (P : A → Type 0) (l : List A) (a b : ℕ) → Each P l → Each P (slice a b l)
+in-window P l a b h = each-drop P a (take b l) (each-take P b l h)
 
 -- from one to five
 window-size : (c : List Float) (i : ℕ) → i < length c → (0 < length (window c i)) × (length (window c i) ≤ 5)

@@ -6,39 +6,36 @@ use native.Mathlib.Numerals.{add-one}
 use native.Mathlib.Omega.{arith}
 use mathlib.Core.Path.{_≡_, refl, sym, ap, ap₂, _∙_}
 use mathlib.Core.Bool.{Bool, true, false, _&&_, _||_, cond, true≢false}
-use mathlib.Core.List.{List, [], _∷_}
+use mathlib.Core.List.{List}
 use mathlib.Core.Logic.{⊎-elim}
 use borrow.Author.Tests.{not-true, not-false, leb-true, leb-false, lt-leb, ltb-true, ltb-false, eq-eqb, ne-eqb}
-use lib.Bits.{bitOr, or-add-and, and-le-l, and-le-r}
+use lib.Bits.{bitOr}
 use lib.Dec.{leb, ltb}
 use lib.ListN.{length}
 use lib.Ieee.{Float, eq, ne}
 use Rattle.lists.specs.Results.{Listed, Pushed, keep, consIf, moreIf}
-use Rattle.lists.specs.By.{Each}
 use Rattle.lists.specs.Sorted.{StrictlyRises}
 use Rattle.lists.proofs.Tests.{and-cases}
-use Rattle.lists.proofs.Members.{strict-each, keep-rises}
-use Rattle.lists.proofs.Fill.{Filling, fill-start, fill-pushed, fill-fitsIf, fill-end, keep-step, keep-over, keep-fits}
+use Rattle.lists.proofs.Entries.{each-map}
+use Rattle.lists.proofs.Members.{strict-between, each-keep, keep-rises}
+use Rattle.lists.proofs.Counting.{neither}
+use Rattle.lists.proofs.Fill.{Filling, fill-start, fill-pushed, fill-fitsIf, fill-end, keep-step, keep-over, keep-fits, keep-pass}
 use Rattle.smooth.specs.declared.extrema.Extremum.{Extremum}
-use Rattle.smooth.specs.Extrema.{at, flatFirst, flatLast, middle, peaksAt, isExtremum, inside, localExtrema, offered}
+use Rattle.lists.specs.Frames.{at}
+use Rattle.smooth.specs.Extrema.{flatFirst, flatLast, middle, peaksAt, isExtremum, inside, localExtrema, offered}
 
 -- ---- frames of which at most one passes
 module _ (t : ℕ → Bool) (n : ℕ) where
-  keep-skip : (d i j : ℕ) → j ≡ i + d → j ≤ n → ((k : ℕ) → i ≤ k → k < j → t k ≡ false) → keep t i (n - i) ≡ keep t j (n - j)
-  keep-skip zero i j e l f =
-      let d : j ≡ i = omega arith in
-      rw d
-  keep-skip (suc d) i j e l f =
-      let p : t i ≡ false = f i (omega arith) (omega arith) in
-      keep-step t i n (omega arith) ∙ rw p (keep-skip d (i + 1) j (omega arith) l (λ k a b. f k (omega arith) b))
-
   -- of the frames i to j at most m passes
   keep-one : (i j m : ℕ) → i ≤ m → m ≤ j → j < n → ((k : ℕ) → i ≤ k → k ≤ j → (k ≡ m → ⊥) → t k ≡ false) →
       keep t i (n - i) ≡ consIf (t m) m (keep t (j + 1) (n - (j + 1)))
   keep-one i j m h l k f =
-      keep-skip (m - i) i m (omega arith) (omega arith) (λ x p q. f x p (omega arith) (λ e. omega arith))
+      let to : i + (m - i) ≡ m = omega arith in
+      let past : m + 1 + (j - m) ≡ j + 1 = omega arith in
+      keep-pass t i (m - i) n (λ x p q. f x p (omega arith) (λ e. omega arith))
+      ∙ ap (λ (x : ℕ). keep t x (n - x)) to
       ∙ keep-step t m n (omega arith)
-      ∙ ap (consIf (t m) m) (keep-skip (j - m) (m + 1) (j + 1) (omega arith) (omega arith) (λ x p q. f x (omega arith) (omega arith) (λ e. omega arith)))
+      ∙ ap (consIf (t m) m) (keep-pass t (m + 1) (j - m) n (λ x p q. f x (omega arith) (omega arith) (λ e. omega arith)) ∙ ap (λ (x : ℕ). keep t x (n - x)) past)
 
 -- ---- a flat stretch
 -- frames i to j are alike, each to the next
@@ -124,17 +121,9 @@ module _ (s : List Float) where
       go true q e later = alike-join i (i + 1) j (λ m p r. let c : m ≡ i = omega arith in rw c q) (later e)
       go false q e later = λ m p r. absurd (omega arith)
 
-  -- a call says whether a step is a change
-  no-change : (b : Bool) {r : ℕ} → r ≡ moreIf b 0 → r ≡ 0 → b ≡ false
-  no-change true e z = absurd (omega (arith, e, z))
-  no-change false e z = refl
-
   -- a: whether there is a change from i to k
   pub change-more : (i k a : ℕ) {r : ℕ} → r ≡ moreIf (ne (at s (k + 1)) (at s k)) 0 → (a ≡ 0 → Alike s i k) → bitOr a r ≡ 0 → Alike s i (k + 1)
-  change-more i k a {r} e f z =
-      let p : a ≡ 0 = omega (arith, z, or-add-and a r, and-le-r a r) in
-      let q : r ≡ 0 = omega (arith, z, or-add-and a r, and-le-l a r) in
-      alike-more i k (f p) (no-change (ne (at s (k + 1)) (at s k)) e q)
+  change-more i k a e f z = let n = neither (ne (at s (k + 1)) (at s k)) a e z in alike-more i k (f (n .0)) (n .1)
 
 -- ---- the extrema of a stretch
 module _ (s : List Float) (lo hi : ℕ) (kind : Extremum) where
@@ -229,36 +218,18 @@ module _ (s : List Float) (lo hi : ℕ) (kind : Extremum) where
         next-within t = goes t .0
 
 -- ---- what is listed
-each-keep : (P : ℕ → Type 0) (t : ℕ → Bool) → ((j : ℕ) → t j ≡ true → P j) → (i k : ℕ) → Each P (keep t i k)
-unfolding keep
-each-keep P t f i zero = tt
-each-keep P t f i (suc k) = go (t i) refl (each-keep P t f (suc i) k)
-  where
-    go : (b : Bool) → t i ≡ b → Each P (keep t (suc i) k) → Each P (consIf b i (keep t (suc i) k))
-    go true e r = (f i e, r)
-    go false e r = r
-
--- between closer bounds, where each entry is
-strict-within : (a n lo hi : ℕ) (xs : List ℕ) → StrictlyRises a n xs → Each (λ x. (lo ≤ x) × (x < hi)) xs → StrictlyRises lo (min hi n) xs
-strict-within a n lo hi [] s e = tt
-strict-within a n lo hi (x ∷ xs) s e =
-    (e .0 .0, omega (arith, e .0 .1, s .1), strict-within (x + 1) n (x + 1) hi xs (s .2) (each-both xs (strict-each (x + 1) n xs (s .2)) (e .1)))
-  where
-    each-both : (xs : List ℕ) → Each (λ y. (x + 1 ≤ y) × (y < n)) xs → Each (λ y. (lo ≤ y) × (y < hi)) xs → Each (λ y. (x + 1 ≤ y) × (y < hi)) xs
-    each-both [] p q = tt
-    each-both (y ∷ ys) p q = ((p .0 .0, q .0 .1), each-both ys (p .1) (q .1))
-
 module _ (s : List Float) (lo hi : ℕ) (kind : Extremum) where
   pub extrema-rise : StrictlyRises lo (min hi (length s)) (localExtrema s lo hi kind)
   unfolding localExtrema
   extrema-rise =
-      strict-within 0 (length s) lo hi (keep (listed s lo hi kind) 0 (length s)) (keep-rises (listed s lo hi kind) (length s) 0 (length s) (omega arith))
-      (each-keep (λ x. (lo ≤ x) × (x < hi)) (listed s lo hi kind) bounds 0 (length s))
+      strict-between 0 (length s) lo (min hi (length s)) (keep (listed s lo hi kind) 0 (length s)) (keep-rises (listed s lo hi kind) (length s) 0 (length s) (omega arith))
+      (each-map (λ x. (0 ≤ x) × (x < 0 + length s) × (listed s lo hi kind x ≡ true)) (λ x. (lo ≤ x) × (x < min hi (length s))) (λ x h. bounds x (omega (arith, h .1)) (h .2))
+      (keep (listed s lo hi kind) 0 (length s)) (each-keep (listed s lo hi kind) 0 (length s)))
     where
-      bounds : (j : ℕ) → listed s lo hi kind j ≡ true → (lo ≤ j) × (j < hi)
-      bounds j e =
+      bounds : (j : ℕ) → j < length s → listed s lo hi kind j ≡ true → (lo ≤ j) × (j < min hi (length s))
+      bounds j h e =
           let c = and-cases (leb lo j) (ltb j hi) (and-cases (isExtremum kind s j) (inside lo hi j) e .1) in
-          (leb-true lo j (c .0), ltb-true j hi (c .1))
+          (leb-true lo j (c .0), omega (arith, ltb-true j hi (c .1)))
 
   pub extrema-fit : length (localExtrema s lo hi kind) ≤ length s
   unfolding localExtrema

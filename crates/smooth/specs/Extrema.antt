@@ -2,17 +2,14 @@
 use Prim.Native.Nat.{ℕ, zero, suc, _+_, _-_, _/_}
 use mathlib.Core.Bool.{Bool, true, false, not, _&&_, _||_, cond}
 use mathlib.Core.List.{List, foldl}
-use lib.ListN.{length, getD}
+use lib.ListN.{length}
 use lib.Seq.{slice}
 use lib.Dec.{leb, ltb, eqb}
-use lib.Ieee.{Float, nan, inf, binary32, lt, eq, sub}
+use lib.Ieee.{Float, inf, binary32, lt, eq, sub}
+use Rattle.lists.specs.Frames.{at, someFrame, firstFrame}
 use Rattle.lists.specs.Results.{keep}
 use Rattle.smooth.specs.declared.extrema.Extremum.{Extremum}
 use Rattle.smooth.specs.declared.extrema.Extremum.the-variants.{Max, Min}
-
--- the value of a frame
-abbrev pub at : List Float → ℕ → Float
-at s i = getD s i nan
 
 -- x is above y for a maximum, and below it for a minimum
 abbrev pub beyond : Extremum → Float → Float → Bool
@@ -64,16 +61,6 @@ abbrev pub offered : Extremum → List Float → ℕ → ℕ → ℕ → ℕ →
 offered kind s lo hi first last = (leftClear kind s first && rightClear kind s last) && inside lo hi (middle first last)
 
 -- ---- the extremum of the frames from a to b
--- some of the k frames from i on passes
-unfoldable pub someFrame : (ℕ → Bool) → ℕ → ℕ → Bool
-someFrame t i zero = false
-someFrame t i (suc k) = t i || someFrame t (i + 1) k
-
--- the first frame from i on that passes, at most k frames on
-unfoldable pub firstFrame : (ℕ → Bool) → ℕ → ℕ → ℕ
-firstFrame t i zero = i
-firstFrame t i (suc k) = cond (t i) i (firstFrame t (i + 1) k)
-
 -- no frame from a to b is beyond frame i
 abbrev pub unbeaten : Extremum → List Float → ℕ → ℕ → ℕ → Bool
 unbeaten kind s a b i = not (someFrame (λ k. beyond kind (at s k) (at s i)) a (b + 1 - a))

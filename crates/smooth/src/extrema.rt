@@ -7,7 +7,8 @@ ghost use lib.Seq.{slice};
 ghost use lib.Dec.{leb};
 ghost use lib.Ieee.{ne};
 ghost use Rattle.lists.specs.Results.{Listed, Pushed, moreIf};
-ghost use Rattle.smooth.specs.Extrema.{at, beyond, unreached, further, furthest, leftClear, rightClear, middle, localExtrema, firstBest, flatLast, extremumMiddle, argminMiddle, argmaxMiddle, offered, shallow};
+ghost use Rattle.lists.specs.Frames.{at};
+ghost use Rattle.smooth.specs.Extrema.{beyond, unreached, further, furthest, leftClear, rightClear, middle, localExtrema, firstBest, flatLast, extremumMiddle, argminMiddle, argmaxMiddle, offered, shallow};
 
 pub enum Extremum {
     Max,
@@ -79,7 +80,8 @@ fn offer(
     out: &mut [u32],
     n: usize,
 ) -> usize
-    requires { ⌜ (i ≤ j) × (j < length (now s)) × (length (now s) ≤ 2048) × (offered kind (now s) lo hi i j ≡ true → n < length (now out)) ⌝ }
+    requires { ⌜ (i ≤ j) × (j < length (now s)) × (length (now s) ≤ 2048)
+        × (offered kind (now s) lo hi i j ≡ true → n < length (now out)) ⌝ }
     ensures { λ r. ⌜ Pushed (offered kind (now (s .entry)) lo hi i j) (middle i j) n (now (out .entry)) (now (out .exit)) r ⌝ }
 {
     let mid = middle(i, j);
@@ -105,7 +107,8 @@ fn one_change(s: &[f32], k: usize) -> u32
     if s[k + 1] != s[k] { 1 } else { 0 }
 }
 
-// 0 where the value never changes in the block of steps from frame j on. All of them are looked at together, which is quick on a long flat stretch.
+// 0 where the value never changes in the block of steps from frame j on. All of them are looked at together, which is quick
+// on a long flat stretch.
 fn changes(s: &[f32], j: usize) -> u32
     requires { ⌜ j + 16 < length (now s) ⌝ }
     ensures { λ r. ⌜ (r ≡ 0 → flatLast (now (s .entry)) j 16 ≡ j + 16) ⌝ }

@@ -3,8 +3,9 @@ ghost use mathlib.Core.Path.{_≡_};
 ghost use mathlib.Core.List.{map};
 ghost use Prim.Native.Nat.{_+_, _-_, _<_, _≤_, min};
 ghost use lib.ListN.{length};
-ghost use Rattle.lists.specs.Results.{overlay};
-ghost use Rattle.smooth.specs.Level.{clean, window, meanOf, means, levels, replaced};
+ghost use lib.Seq.{slice};
+ghost use Rattle.lists.specs.Results.{overlay, replaced};
+ghost use Rattle.smooth.specs.Level.{clean, window, meanOf, means, levels};
 use floats::plain::is_finite;
 use floats::plain::plain_zero;
 
@@ -42,20 +43,26 @@ fn past(i: usize, n: usize) -> usize
     if n - i < 3 { n } else { i + 3 }
 }
 
+// The mean of the entries from a on and before b, a zero as +0.0; of none a NaN.
+pub fn mean(xs: &[f32], a: usize, b: usize) -> f32
+    requires { ⌜ (a ≤ b) × (b ≤ length (now xs)) × (b ≤ a + 5) ⌝ }
+    ensures { λ r. ⌜ r ≡ meanOf (slice a b (now (xs .entry))) ⌝ }
+{
+    let mut sum = 0.0f32;
+    let mut j = a;
+    while j < b {
+        sum = sum + xs[j];
+        j += 1;
+    }
+    plain_zero(sum / ((b - a) as f32))
+}
+
 // The mean of the frames around frame i, of as many of the five as there are.
 fn mean_around(c: &[f32], i: usize) -> f32
     requires { ⌜ i < length (now c) ⌝ }
     ensures { λ r. ⌜ r ≡ meanOf (window (now (c .entry)) i) ⌝ }
 {
-    let lo = first(i);
-    let hi = past(i, c.len());
-    let mut sum = 0.0f32;
-    let mut j = lo;
-    while j < hi {
-        sum = sum + c[j];
-        j += 1;
-    }
-    plain_zero(sum / ((hi - lo) as f32))
+    mean(c, first(i), past(i, c.len()))
 }
 
 // The mean of the five frames around frame i, which has two frames on either side.

@@ -10,7 +10,7 @@ use lib.Seq.{getD-take, take-all}
 use borrow.Author.Tests.{lt-leb, le-leb, leb-true, leb-false, ne-eqb, eq-eqb, eqb-true}
 use Rattle.lists.proofs.Tests.{and-cases, test-iff}
 use Rattle.take.specs.Fields.{halfAt, wordAt}
-use Rattle.take.specs.File.{framesIn, largest, agrees, refusalOf, takeIn, refused, taken, readTake}
+use Rattle.take.specs.File.{framesIn, largest, agrees, refusalOf, refused, readTake}
 
 -- ---- the tests in turn
 module _ (held : List ℕ) (total : ℕ) where
@@ -100,11 +100,6 @@ module _ (most : ℕ) (file : List ℕ) where
   agrees-kept : 7 ≤ most → (total : ℕ) → agrees (take most file) total ≡ agrees file total
   unfolding agrees
   agrees-kept h total = rw (head-kept h, byte-kept 4 (omega arith), length-kept h, frames-kept h)
-
--- a file that is not refused is read as its take
-pub taken-read : (held : List ℕ) (total : ℕ) → refusalOf held total ≡ 0 → readTake held total ≡ taken (takeIn held)
-unfolding readTake
-taken-read held total e = rw (eq-eqb (refusalOf held total) 0 e)
 
 -- a file longer than every take is refused alike
 longer : (held : List ℕ) (total : ℕ) → 34835 < total → (b : Bool) → agrees held total ≡ b → refusalOf held total ≡ cond b 1 11

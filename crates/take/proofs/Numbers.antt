@@ -24,14 +24,14 @@ unfolding hexDigits
 hex-step zero n h = absurd (h refl)
 hex-step (suc k) n h = let e : suc k - 1 ≡ k = omega arith in rw e
 
+pub tenth : (n m : ℕ) → n < m * 10 → n / 10 < m
+tenth n m h = omega arith
+
 -- a place more makes no other digits, where there are enough
 enough : (k n : ℕ) → n < 10 ^ suc k → decimalIn (suc (suc k)) n ≡ decimalIn (suc k) n
 unfolding decimalIn
 enough zero n h = rw (lt-ltb n 10 h)
 enough (suc k) n h = ap (λ (l : List ℕ). cond (ltb n 10) (glyph n ∷ []) (l ++ (glyph (n % 10) ∷ []))) (enough k (n / 10) (tenth n (10 ^ suc k) (rw (pow-suc 10 (suc k)) at h)))
-  where
-    tenth : (n m : ℕ) → n < m * 10 → n / 10 < m
-    tenth n m h = omega arith
 
 digit : (k n : ℕ) → n < 10 → decimalIn (suc k) n ≡ glyph n ∷ []
 unfolding decimalIn

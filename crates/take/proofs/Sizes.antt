@@ -10,8 +10,8 @@ use lib.Ieee.{Float, nan}
 use borrow.Author.Tests.{lt-ltb}
 use Rattle.lists.specs.Results.{keep, consIf}
 use Rattle.take.specs.Text.{glyph, decimalIn, decimal}
-use Rattle.take.specs.Listing.{Marks, pitchWord, nucleusWord, extraWord, edgeWord, boundaryWord, frameLine, markLine, markLines, changed, pitchLines, regionLine, listing, refusedWord, refusedListing, Sized, largestListing}
-use Rattle.take.proofs.Numbers.{hex-length}
+use Rattle.take.specs.Listing.{Marks, pitchWord, nucleusWord, extraWord, edgeWord, boundaryWord, frameLine, markLine, markLines, changed, pitchLines, regionLine, listing, refusedWord, refusedListing, largestListing}
+use Rattle.take.proofs.Numbers.{hex-length, tenth}
 
 -- ---- digits
 shorter : (b : Bool) (l : List ℕ) (d e k : ℕ) → length l ≤ k → length (cond b (d ∷ []) (l ++ (e ∷ []))) ≤ suc k
@@ -30,9 +30,6 @@ unfolding decimalIn
 needed zero j n h = zero-le
 needed (suc k) zero n h = rw (lt-ltb n 10 h) (omega arith)
 needed (suc k) (suc j) n h = shorter (ltb n 10) (decimalIn k (n / 10)) (glyph n) (glyph (n % 10)) (suc j) (needed k j (n / 10) (tenth n (10 ^ suc j) (rw (pow-suc 10 (suc j)) at h)))
-  where
-    tenth : (n m : ℕ) → n < m * 10 → n / 10 < m
-    tenth n m h = omega arith
 
 -- ---- lines
 frame-size : (w : List ℕ) (i : ℕ) → length (frameLine w i) ≤ length w + 12
@@ -76,6 +73,14 @@ unfolding pitchLines
 pitches-size given left h =
     kept-size 20 (λ (i : ℕ). markLine pitchWord i (getD left i nan)) (λ (i : ℕ). changed (getD given i nan) (getD left i nan)) 0 (length left)
     (λ j l. mark-size pitchWord j 4 (getD left j nan) (needed 10 3 j (omega arith)))
+
+-- the marks of a take of n frames are no more than this
+pub record Sized (n : ℕ) (m : Marks) : Type 0 where
+  pub pitches : length (m .left) ≤ n
+  pub nuclei : length (m .frames) ≤ n
+  pub extras : length (m .extraFrames) ≤ n
+  pub edges : length (m .edges) ≤ n
+  pub boundaries : length (m .boundaries) ≤ n + 1
 
 pub listing-size : (m : Marks) (n : ℕ) → n ≤ 2048 → Sized n m → length (listing m) ≤ 116 * n + 49
 unfolding listing

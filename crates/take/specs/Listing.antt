@@ -1,5 +1,5 @@
 -- The listing of a take's marks, byte by byte. Definitions only.
-use Prim.Native.Nat.{ℕ, _+_, _*_, _≤_}
+use Prim.Native.Nat.{ℕ, _+_, _*_}
 use mathlib.Core.Bool.{Bool, not, cond}
 use mathlib.Core.List.{List, [], _∷_, _++_, flatMap}
 use lib.Dec.{eqb}
@@ -89,14 +89,6 @@ listing m =
 -- the listing of a refused take
 abbrev pub refusedListing : ℕ → List ℕ
 refusedListing number = frameLine refusedWord number
-
--- the marks of a take of n frames are no more than this
-pub record Sized (n : ℕ) (m : Marks) : Type 0 where
-  pub pitches : length (m .left) ≤ n
-  pub nuclei : length (m .frames) ≤ n
-  pub extras : length (m .extraFrames) ≤ n
-  pub edges : length (m .edges) ≤ n
-  pub boundaries : length (m .boundaries) ≤ n + 1
 
 -- the most bytes of a listing
 abbrev pub largestListing : ℕ

@@ -104,8 +104,17 @@ pub fn read_take(
     vowel: &mut [u8],
 ) -> Settings
     requires { ⌜ 19 + 17 * framesIn (now file) ≤ length (now file) ⌝ }
-    requires { ⌜ (length (now db) ≡ framesIn (now file)) × (length (now pitch) ≡ framesIn (now file)) × (length (now voiced) ≡ framesIn (now file)) × (length (now sonority) ≡ framesIn (now file)) × (length (now vowel) ≡ framesIn (now file)) ⌝ }
-    ensures { λ r. ⌜ record { settings = r; db = now (db .exit); pitch = now (pitch .exit); voiced = now (voiced .exit); sonority = now (sonority .exit); vowel = now (vowel .exit) } ≡ takeIn (now (file .entry)) ⌝ }
+    requires { ⌜ (length (now db) ≡ framesIn (now file)) × (length (now pitch) ≡ framesIn (now file))
+        × (length (now voiced) ≡ framesIn (now file)) × (length (now sonority) ≡ framesIn (now file))
+        × (length (now vowel) ≡ framesIn (now file)) ⌝ }
+    ensures { λ r. ⌜ record {
+      settings = r;
+      db = now (db .exit);
+      pitch = now (pitch .exit);
+      voiced = now (voiced .exit);
+      sonority = now (sonority .exit);
+      vowel = now (vowel .exit);
+    } ≡ takeIn (now (file .entry)) ⌝ }
 {
     read_track(file, 0, db);
     read_track(file, 4, pitch);

@@ -52,7 +52,8 @@ fn frame_lines(word: &[u8], frames: &[u32], out: &mut [u8], at: usize) -> usize
 fn mark_lines(word: &[u8], frames: &[u32], strengths: &[f32], out: &mut [u8], at: usize) -> usize
     requires { ⌜ length (now frames) ≡ length (now strengths) ⌝ }
     requires { ⌜ at + length (markLines (now word) (now frames) (now strengths)) ≤ length (now out) ⌝ }
-    ensures { λ r. ⌜ Put (markLines (now (word .entry)) (now (frames .entry)) (now (strengths .entry))) at (now (out .entry)) (now (out .exit)) r ⌝ }
+    ensures { λ r. ⌜ Put (markLines (now (word .entry)) (now (frames .entry)) (now (strengths .entry))) at (now (out .entry))
+        (now (out .exit)) r ⌝ }
 {
     let mut k = at;
     let mut i: usize = 0;
@@ -73,7 +74,8 @@ fn is_changed(given: f32, left: f32) -> bool
 // The line of a frame whose pitch changed; no line where it did not.
 fn pitch_line(given: f32, left: f32, frame: u32, out: &mut [u8], at: usize) -> usize
     requires { ⌜ at + length (cond (changed given left) (markLine pitchWord frame left) []) ≤ length (now out) ⌝ }
-    ensures { λ r. ⌜ Put (cond (changed given left) (markLine pitchWord frame left) []) at (now (out .entry)) (now (out .exit)) r ⌝ }
+    ensures { λ r. ⌜ Put (cond (changed given left) (markLine pitchWord frame left) []) at (now (out .entry)) (now (out .exit))
+        r ⌝ }
 {
     if is_changed(given, left) {
         return mark_line(b"pitch", frame, left, out, at);
@@ -125,9 +127,36 @@ pub fn listing(
     bounds: &[u32],
     out: &mut [u8],
 ) -> usize
-    requires { ⌜ (length (now given) ≡ length (now left)) × (length (now left) ≤ 2048) × (length (now frames) ≡ length (now strengths)) × (length (now xframes) ≡ length (now xstrengths)) ⌝ }
-    requires { ⌜ length (listing (record { given = now given; left = now left; found = found; start = start; end = end; frames = now frames; strengths = now strengths; extraFrames = now xframes; extraStrengths = now xstrengths; edges = now edges; boundaries = now bounds })) ≤ length (now out) ⌝ }
-    ensures { λ r. ⌜ Listed (listing (record { given = now (given .entry); left = now (left .entry); found = found; start = start; end = end; frames = now (frames .entry); strengths = now (strengths .entry); extraFrames = now (xframes .entry); extraStrengths = now (xstrengths .entry); edges = now (edges .entry); boundaries = now (bounds .entry) })) (now (out .entry)) (now (out .exit)) r ⌝ }
+    requires { ⌜ (length (now given) ≡ length (now left)) × (length (now left) ≤ 2048)
+        × (length (now frames) ≡ length (now strengths)) × (length (now xframes) ≡ length (now xstrengths)) ⌝ }
+    requires { ⌜ length (listing (record {
+      given = now given;
+      left = now left;
+      found = found;
+      start = start;
+      end = end;
+      frames = now frames;
+      strengths = now strengths;
+      extraFrames = now xframes;
+      extraStrengths = now xstrengths;
+      edges = now edges;
+      boundaries = now bounds;
+    })) ≤ length (now out) ⌝ }
+    ensures { λ r. ⌜ Listed (listing
+        (record {
+          given = now (given .entry);
+          left = now (left .entry);
+          found = found;
+          start = start;
+          end = end;
+          frames = now (frames .entry);
+          strengths = now (strengths .entry);
+          extraFrames = now (xframes .entry);
+          extraStrengths = now (xstrengths .entry);
+          edges = now (edges .entry);
+          boundaries = now (bounds .entry);
+        }))
+        (now (out .entry)) (now (out .exit)) r ⌝ }
 {
     let a = pitch_lines(given, left, out, 0);
     let b = region_line(found, start, end, out, a);

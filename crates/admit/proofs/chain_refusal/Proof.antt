@@ -1,151 +1,32 @@
--- `chain_refusal` meets its contract: where the lengths are short, the tests in a row are those of the definition. Assumes nothing.
-use mathlib.Core.Path.{refl}
+-- `chain_refusal` meets its contract. Assumes nothing.
+use mathlib.Core.Path.{refl, sym, ap₂}
+use mathlib.Core.Bool.{_&&_}
 use borrow.Author.Needs.{needs}
-use Rattle.admit.specs.Refusals.{chainRefusal}
-use Rattle.admit.proofs.Refusing.{stop, pass, next, pair, fails, holds}
+use borrow.Author.Tests.{not-true, not-false}
+use Rattle.admit.specs.First.{passes, firstFailed}
+use Rattle.admit.specs.Refusals.{tested, refusal, chainRefusal}
+use Rattle.admit.proofs.First.{stop, numbered, next}
+use Rattle.admit.proofs.Ranges.{n0, n1, n40, n2000}
 use Rattle.admit.proofs.chain_refusal.Statement.{statement}
 use Rattle.admit.proofs.chain_refusal.Tie as tie
 
-short-requires : tie.Need-short-requires
-short-requires c κs = search needs
-
-short-requires-2 : tie.Need-short-requires-2
-short-requires-2 c κs = search needs
-
-both-requires : tie.Need-both-requires
-both-requires c κs = search needs
-
-short-requires-3 : tie.Need-short-requires-3
-short-requires-3 c κs = search needs
-
-both-requires-2 : tie.Need-both-requires-2
-both-requires-2 c κs = search needs
-
-short-requires-4 : tie.Need-short-requires-4
-short-requires-4 c κs = search needs
-
-both-requires-3 : tie.Need-both-requires-3
-both-requires-3 c κs = search needs
-
-short-requires-5 : tie.Need-short-requires-5
-short-requires-5 c κs = search needs
-
-both-requires-4 : tie.Need-both-requires-4
-both-requires-4 c κs = search needs
-
 returns : tie.Need-returns
-unfolding chainRefusal
-returns c = stop _ _ _ (fails (pair (c .before .both4 .ensures) (pair (c .before .before .before .both3 .ensures) (pair (c .before .before .before .before .before .both2 .ensures) (pair (c .before .before .before .before .before .before .before .both .ensures) (c .before .before .before .before .before .before .before .before .before .short .ensures) (c .before .before .before .before .before .before .before .before .short2 .ensures)) (c .before .before .before .before .before .before .short3 .ensures)) (c .before .before .before .before .short4 .ensures)) (c .before .before .short5 .ensures)) (c .if1 .taken))
-
-both-requires-5 : tie.Need-both-requires-5
-both-requires-5 c κs = search needs
-
-both-requires-6 : tie.Need-both-requires-6
-both-requires-6 c κs = search needs
-
-both-requires-7 : tie.Need-both-requires-7
-both-requires-7 c κs = search needs
-
-both-requires-8 : tie.Need-both-requires-8
-both-requires-8 c κs = search needs
-
-both-requires-9 : tie.Need-both-requires-9
-both-requires-9 c κs = search needs
-
-refuse-requires : tie.Need-refuse-requires
-refuse-requires c κs = search needs
-
-refuse-requires-2 : tie.Need-refuse-requires-2
-refuse-requires-2 c κs = search needs
-
-all-shares-requires : tie.Need-all-shares-requires
-all-shares-requires c κs = search needs
-
-all-marks-requires : tie.Need-all-marks-requires
-all-marks-requires c κs = search needs
-
-both-requires-10 : tie.Need-both-requires-10
-both-requires-10 c κs = search needs
-
-refuse-requires-3 : tie.Need-refuse-requires-3
-refuse-requires-3 c κs = search needs
-
-all-repairable-requires : tie.Need-all-repairable-requires
-all-repairable-requires c κs = search needs
-
-all-shares-requires-2 : tie.Need-all-shares-requires-2
-all-shares-requires-2 c κs = search needs
-
-both-requires-11 : tie.Need-both-requires-11
-both-requires-11 c κs = search needs
-
-refuse-requires-4 : tie.Need-refuse-requires-4
-refuse-requires-4 c κs = search needs
-
-all-db-requires : tie.Need-all-db-requires
-all-db-requires c κs = search needs
-
-refuse-requires-5 : tie.Need-refuse-requires-5
-refuse-requires-5 c κs = search needs
-
-settings-admitted-requires : tie.Need-settings-admitted-requires
-settings-admitted-requires c κs = search needs
-
-refuse-requires-6 : tie.Need-refuse-requires-6
-refuse-requires-6 c κs = search needs
-
-both-requires-12 : tie.Need-both-requires-12
-both-requires-12 c κs = search needs
-
-refuse-requires-7 : tie.Need-refuse-requires-7
-refuse-requires-7 c κs = search needs
+unfolding chainRefusal refusal firstFailed passes tested
+returns c = stop _ _ _ (not-true _ (c .if1 .taken))
 
 returns-2 : tie.Need-returns-2
-unfolding chainRefusal
+unfolding chainRefusal refusal firstFailed passes tested
 returns-2 c =
-    let tested = c .before .before .before .before .before .before .before .before .before .before .before .before .before .before .before .before .before .before .before .before .before in
-    pass _ _ _ _ (holds (pair (tested .before .both4 .ensures) (pair (tested .before .before .before .both3 .ensures) (pair (tested .before .before .before .before .before .both2 .ensures) (pair (tested .before .before .before .before .before .before .before .both .ensures) (tested .before .before .before .before .before .before .before .before .before .short .ensures) (tested .before .before .before .before .before .before .before .before .short2 .ensures)) (tested .before .before .before .before .before .before .short3 .ensures)) (tested .before .before .before .before .short4 .ensures)) (tested .before .before .short5 .ensures)) (tested .if1 .left))
-    (next 2 (c .refuse7 .ensures) (c .before .both12 .ensures)
-    (next 3 (c .before .before .refuse6 .ensures) (c .before .before .before .settings-admitted .ensures)
-    (next 4 (c .before .before .before .before .refuse5 .ensures) (c .before .before .before .before .before .all-db .ensures)
-    (next 5 (c .before .before .before .before .before .before .refuse4 .ensures) (pair (c .before .before .before .before .before .before .before .both11 .ensures) (c .before .before .before .before .before .before .before .before .before .all-repairable .ensures) (c .before .before .before .before .before .before .before .before .all-shares2 .ensures))
-    (next 6 (c .before .before .before .before .before .before .before .before .before .before .refuse3 .ensures) (pair (c .before .before .before .before .before .before .before .before .before .before .before .both10 .ensures) (c .before .before .before .before .before .before .before .before .before .before .before .before .before .all-shares .ensures) (c .before .before .before .before .before .before .before .before .before .before .before .before .all-marks .ensures))
-    (next 9 (c .before .before .before .before .before .before .before .before .before .before .before .before .before .before .refuse2 .ensures) refl
-    (next 10 (c .before .before .before .before .before .before .before .before .before .before .before .before .before .before .before .refuse .ensures) (pair (c .before .before .before .before .before .before .before .before .before .before .before .before .before .before .before .before .both9 .ensures) (pair (c .before .before .before .before .before .before .before .before .before .before .before .before .before .before .before .before .before .both8 .ensures) (pair (c .before .before .before .before .before .before .before .before .before .before .before .before .before .before .before .before .before .before .both7 .ensures) (pair (c .before .before .before .before .before .before .before .before .before .before .before .before .before .before .before .before .before .before .before .both6 .ensures) (c .before .before .before .before .before .before .before .before .before .before .before .before .before .before .before .before .before .before .before .before .both5 .ensures) refl) refl) refl) refl) refl)))))))
+    numbered _ (c .number-of .ensures)
+    (next (sym (not-false _ (c .before .before .before .before .before .before .before .if1 .left)))
+    (next refl
+    (next (c .before .before .before .before .before .before .settings-admitted .ensures)
+    (next (c .before .before .before .before .before .all-db .ensures)
+    (next (ap₂ _&&_ (rw (n40, n2000) at (c .before .before .before .before .all-pitches .ensures)) (rw (n0, n1) at (c .before .before .before .all-within .ensures)))
+    (next (ap₂ _&&_ (rw (n0, n1) at (c .before .before .all-within2 .ensures)) (c .before .all-marks .ensures))
+    refl))))))
 
 pub chain-refusal-spec : {M : Type 1} → statement M
 chain-refusal-spec =
     tie.close
-    (tie.spec
-    short-requires
-    short-requires-2
-    both-requires
-    short-requires-3
-    both-requires-2
-    short-requires-4
-    both-requires-3
-    short-requires-5
-    both-requires-4
-    returns
-    both-requires-5
-    both-requires-6
-    both-requires-7
-    both-requires-8
-    both-requires-9
-    refuse-requires
-    refuse-requires-2
-    all-shares-requires
-    all-marks-requires
-    both-requires-10
-    refuse-requires-3
-    all-repairable-requires
-    all-shares-requires-2
-    both-requires-11
-    refuse-requires-4
-    all-db-requires
-    refuse-requires-5
-    settings-admitted-requires
-    refuse-requires-6
-    both-requires-12
-    refuse-requires-7
-    returns-2)
+    (tie.spec returns (λ c κs. search needs) (λ c κs. search needs) (λ c κs. search needs) (λ c κs. search needs) (λ c κs. search needs) (λ c κs. search needs) (λ c κs. search needs) returns-2)

@@ -1,86 +1,30 @@
--- `nuclei_refusal` meets its contract: where the lengths are short, the tests in a row are those of the definition. Assumes nothing.
-use mathlib.Core.Path.{refl}
+-- `nuclei_refusal` meets its contract. Assumes nothing.
+use mathlib.Core.Path.{refl, sym}
 use borrow.Author.Needs.{needs}
-use Rattle.admit.specs.Refusals.{nucleiRefusal}
-use Rattle.admit.proofs.Refusing.{stop, pass, next, pair, fails, holds}
+use borrow.Author.Tests.{not-true, not-false}
+use Rattle.admit.specs.First.{passes, firstFailed}
+use Rattle.admit.specs.Refusals.{tested, refusal, nucleiRefusal}
+use Rattle.admit.proofs.First.{stop, numbered, next}
+use Rattle.admit.proofs.Ranges.{n20, n4000}
 use Rattle.admit.proofs.nuclei_refusal.Statement.{statement}
 use Rattle.admit.proofs.nuclei_refusal.Tie as tie
 
-short-requires : tie.Need-short-requires
-short-requires c κs = search needs
-
-short-requires-2 : tie.Need-short-requires-2
-short-requires-2 c κs = search needs
-
-both-requires : tie.Need-both-requires
-both-requires c κs = search needs
-
 returns : tie.Need-returns
-unfolding nucleiRefusal
-returns c = stop _ _ _ (fails (pair (c .before .both .ensures) (c .before .before .before .short .ensures) (c .before .before .short2 .ensures)) (c .if1 .taken))
-
-both-requires-2 : tie.Need-both-requires-2
-both-requires-2 c κs = search needs
-
-refuse-requires : tie.Need-refuse-requires
-refuse-requires c κs = search needs
-
-inside-requires : tie.Need-inside-requires
-inside-requires c κs = search needs
-
-refuse-requires-2 : tie.Need-refuse-requires-2
-refuse-requires-2 c κs = search needs
-
-all-pitches-requires : tie.Need-all-pitches-requires
-all-pitches-requires c κs = search needs
-
-refuse-requires-3 : tie.Need-refuse-requires-3
-refuse-requires-3 c κs = search needs
-
-all-db-requires : tie.Need-all-db-requires
-all-db-requires c κs = search needs
-
-refuse-requires-4 : tie.Need-refuse-requires-4
-refuse-requires-4 c κs = search needs
-
-settings-admitted-requires : tie.Need-settings-admitted-requires
-settings-admitted-requires c κs = search needs
-
-refuse-requires-5 : tie.Need-refuse-requires-5
-refuse-requires-5 c κs = search needs
-
-refuse-requires-6 : tie.Need-refuse-requires-6
-refuse-requires-6 c κs = search needs
+unfolding nucleiRefusal refusal firstFailed passes tested
+returns c = stop _ _ _ (not-true _ (c .if1 .taken))
 
 returns-2 : tie.Need-returns-2
-unfolding nucleiRefusal
+unfolding nucleiRefusal refusal firstFailed passes tested
 returns-2 c =
-    let tested = c .before .before .before .before .before .before .before .before .before .before .before in
-    pass _ _ _ _ (holds (pair (tested .before .both .ensures) (tested .before .before .before .short .ensures) (tested .before .before .short2 .ensures)) (tested .if1 .left))
-    (next 2 (c .refuse6 .ensures) refl
-    (next 3 (c .before .refuse5 .ensures) (c .before .before .settings-admitted .ensures)
-    (next 4 (c .before .before .before .refuse4 .ensures) (c .before .before .before .before .all-db .ensures)
-    (next 5 (c .before .before .before .before .before .refuse3 .ensures) (c .before .before .before .before .before .before .all-pitches .ensures)
-    (next 7 (c .before .before .before .before .before .before .before .refuse2 .ensures) (c .before .before .before .before .before .before .before .before .inside .ensures)
-    (next 10 (c .before .before .before .before .before .before .before .before .before .refuse .ensures) (c .before .before .before .before .before .before .before .before .before .before .both2 .ensures) refl))))))
+    numbered _ (c .number-of .ensures)
+    (next (sym (not-false _ (c .before .before .before .before .if1 .left)))
+    (next refl
+    (next (c .before .before .before .settings-admitted .ensures)
+    (next (c .before .before .all-db .ensures)
+    (next (rw (n20, n4000) at (c .before .all-pitches .ensures))
+    refl)))))
 
 pub nuclei-refusal-spec : {M : Type 1} → statement M
 nuclei-refusal-spec =
     tie.close
-    (tie.spec
-    short-requires
-    short-requires-2
-    both-requires
-    returns
-    both-requires-2
-    refuse-requires
-    inside-requires
-    refuse-requires-2
-    all-pitches-requires
-    refuse-requires-3
-    all-db-requires
-    refuse-requires-4
-    settings-admitted-requires
-    refuse-requires-5
-    refuse-requires-6
-    returns-2)
+    (tie.spec returns (λ c κs. search needs) (λ c κs. search needs) (λ c κs. search needs) (λ c κs. search needs) returns-2)

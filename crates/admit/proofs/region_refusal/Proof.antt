@@ -1,46 +1,28 @@
--- `region_refusal` meets its contract: where the lengths are short, the tests in a row are those of the definition. Assumes nothing.
-use mathlib.Core.Path.{refl}
+-- `region_refusal` meets its contract. Assumes nothing.
+use mathlib.Core.Path.{refl, sym}
 use borrow.Author.Needs.{needs}
-use Rattle.admit.specs.Refusals.{regionRefusal}
-use Rattle.admit.proofs.Refusing.{stop, pass, next, fails, holds}
+use borrow.Author.Tests.{lt-leb, le-leb}
+use Rattle.admit.specs.First.{passes, firstFailed}
+use Rattle.admit.specs.Refusals.{tested, refusal, regionRefusal}
+use Rattle.admit.proofs.First.{stop, numbered, next}
 use Rattle.admit.proofs.region_refusal.Statement.{statement}
 use Rattle.admit.proofs.region_refusal.Tie as tie
 
-short-requires : tie.Need-short-requires
-short-requires c κs = search needs
-
 returns : tie.Need-returns
-unfolding regionRefusal
-returns c = stop _ _ _ (fails (c .before .short .ensures) (c .if1 .taken))
-
-all-db-requires : tie.Need-all-db-requires
-all-db-requires c κs = search needs
-
-refuse-requires : tie.Need-refuse-requires
-refuse-requires c κs = search needs
-
-settings-admitted-requires : tie.Need-settings-admitted-requires
-settings-admitted-requires c κs = search needs
-
-refuse-requires-2 : tie.Need-refuse-requires-2
-refuse-requires-2 c κs = search needs
+unfolding regionRefusal refusal firstFailed passes tested
+returns c = stop _ _ _ (lt-leb _ _ (c .if1 .taken))
 
 returns-2 : tie.Need-returns-2
-unfolding regionRefusal
+unfolding regionRefusal refusal firstFailed passes tested
 returns-2 c =
-    let tested = c .before .before .before .before in
-    pass _ _ _ _ (holds (tested .before .short .ensures) (tested .if1 .left))
-    (next 3 (c .refuse2 .ensures) (c .before .settings-admitted .ensures)
-    (next 4 (c .before .before .refuse .ensures) (c .before .before .before .all-db .ensures) refl))
+    numbered _ (c .number-of .ensures)
+    (next (sym (le-leb _ _ (c .before .before .before .if1 .left)))
+    (next refl
+    (next (c .before .before .settings-admitted .ensures)
+    (next (c .before .all-db .ensures)
+    refl))))
 
 pub region-refusal-spec : {M : Type 1} → statement M
 region-refusal-spec =
     tie.close
-    (tie.spec
-    short-requires
-    returns
-    all-db-requires
-    refuse-requires
-    settings-admitted-requires
-    refuse-requires-2
-    returns-2)
+    (tie.spec returns (λ c κs. search needs) (λ c κs. search needs) (λ c κs. search needs) returns-2)

@@ -1,31 +1,28 @@
--- `repair_refusal` meets its contract: where the lengths are short, the tests in a row are those of the definition. Assumes nothing.
-use mathlib.Core.Path.{refl}
+-- `repair_refusal` meets its contract. Assumes nothing.
+use mathlib.Core.Path.{refl, sym}
 use borrow.Author.Needs.{needs}
-use Rattle.admit.specs.Refusals.{repairRefusal}
-use Rattle.admit.proofs.Refusing.{stop, pass, next, fails, holds}
+use borrow.Author.Tests.{lt-leb, le-leb}
+use Rattle.admit.specs.First.{passes, firstFailed}
+use Rattle.admit.specs.Refusals.{tested, refusal, repairRefusal}
+use Rattle.admit.proofs.First.{stop, numbered, next}
+use Rattle.admit.proofs.Ranges.{n40, n2000}
 use Rattle.admit.proofs.repair_refusal.Statement.{statement}
 use Rattle.admit.proofs.repair_refusal.Tie as tie
 
-short-requires : tie.Need-short-requires
-short-requires c κs = search needs
-
 returns : tie.Need-returns
-unfolding repairRefusal
-returns c = stop _ _ _ (fails (c .before .short .ensures) (c .if1 .taken))
-
-all-repairable-requires : tie.Need-all-repairable-requires
-all-repairable-requires c κs = search needs
-
-refuse-requires : tie.Need-refuse-requires
-refuse-requires c κs = search needs
+unfolding repairRefusal refusal firstFailed passes tested
+returns c = stop _ _ _ (lt-leb _ _ (c .if1 .taken))
 
 returns-2 : tie.Need-returns-2
-unfolding repairRefusal
+unfolding repairRefusal refusal firstFailed passes tested
 returns-2 c =
-    let tested = c .before .before in
-    pass _ _ _ _ (holds (tested .before .short .ensures) (tested .if1 .left))
-    (next 5 (c .refuse .ensures) (c .before .all-repairable .ensures) refl)
+    numbered _ (c .number-of .ensures)
+    (next (sym (le-leb _ _ (c .before .before .if1 .left)))
+    (next refl (next refl (next refl
+    (next (rw (n40, n2000) at (c .before .all-pitches .ensures))
+    refl)))))
 
 pub repair-refusal-spec : {M : Type 1} → statement M
 repair-refusal-spec =
-    tie.close (tie.spec short-requires returns all-repairable-requires refuse-requires returns-2)
+    tie.close
+    (tie.spec returns (λ c κs. search needs) (λ c κs. search needs) returns-2)

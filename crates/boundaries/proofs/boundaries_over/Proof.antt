@@ -1,67 +1,50 @@
--- `boundaries::boundaries_over` meets its contract. Assumes nothing.
+-- `boundaries::boundaries_over` meets its contract: the frames that are marked in the end are written in order. Assumes nothing.
 use native.Mathlib.Omega.{arith}
 use borrow.Author.Needs.{needs}
-use mathlib.Core.Path.{sym, subst, _∙_}
-use Prim.Native.Nat.{ℕ}
 use lib.ListN.{length}
-use Rattle.lists.specs.Sorted.{StrictlyRises}
-use Rattle.lists.proofs.Fill.{listed-fits, listed-count}
-use Rattle.boundaries.proofs.Whole.{runs-ready, over-is}
+use Rattle.lists.proofs.Members.{strict-few}
+use Rattle.boundaries.proofs.Cells.{none-taken}
+use Rattle.boundaries.proofs.Spreading.{spread-flags}
+use Rattle.boundaries.proofs.Whole.{whole-listed}
 use Rattle.boundaries.proofs.boundaries_over.Statement.{statement}
 use Rattle.boundaries.proofs.boundaries_over.Tie as tie
 
-slice-aggregate-syllable-runs : tie.Need-slice-aggregate-syllable-runs
-slice-aggregate-syllable-runs c = search needs
+mul-cap : tie.Need-mul-cap
+mul-cap c = omega (arith, strict-few 0 (length (c .before .before .before .before .before .before .args .db .now)) (c .before .before .before .before .before .before .args .nuclei .now) (omega arith) (c .before .before .before .before .before .before .pre .1 .0), c .before .before .before .before .before .before .pre .0)
 
-slice-aggregate-syllable-runs-2 : tie.Need-slice-aggregate-syllable-runs-2
-slice-aggregate-syllable-runs-2 c = search needs
-
-syllable-runs-requires : tie.Need-syllable-runs-requires
-syllable-runs-requires c κs =
-    let pre = c .before .before .before .before .before .before .before .before .pre in
-    (omega (arith, pre .0), omega (arith, pre .0), omega (arith, pre .0))
+add-cap : tie.Need-add-cap
+add-cap c = omega (arith, strict-few 0 (length (c .before .before .before .before .before .before .args .db .now)) (c .before .before .before .before .before .before .args .nuclei .now) (omega arith) (c .before .before .before .before .before .before .pre .1 .0), c .before .before .before .before .before .before .pre .0)
 
 creak-marks-requires : tie.Need-creak-marks-requires
-creak-marks-requires c κs = omega (arith, c .before .before .before .before .before .before .before .before .before .before .before .before .pre .0)
+creak-marks-requires c κs = omega (arith, c .before .before .before .before .before .before .before .pre .0)
 
-array-share-prefix-first : tie.Need-array-share-prefix-first
-array-share-prefix-first c = listed-fits (c .before .before .before .before .syllable-runs .ensures .0)
+keep-edges-requires : tie.Need-keep-edges-requires
+keep-edges-requires c κs = (c .before .before .before .before .before .before .before .before .before .before .pre .0, c .before .before .before .before .before .before .before .before .before .before .pre .1 .0)
 
-slice-aggregate-boundaries-in : tie.Need-slice-aggregate-boundaries-in
-slice-aggregate-boundaries-in c = listed-count (c .before .before .before .before .before .syllable-runs .ensures .0)
+add-minima-requires : tie.Need-add-minima-requires
+add-minima-requires c κs = omega (arith, c .before .before .before .before .before .before .before .before .before .before .before .before .before .pre .0)
 
-array-share-prefix-last : tie.Need-array-share-prefix-last
-array-share-prefix-last c = listed-fits (c .before .before .before .before .before .syllable-runs .ensures .1)
-
-slice-aggregate-boundaries-in-2 : tie.Need-slice-aggregate-boundaries-in-2
-slice-aggregate-boundaries-in-2 c = listed-count (c .before .before .before .before .before .before .syllable-runs .ensures .1)
-
-boundaries-in-requires : tie.Need-boundaries-in-requires
-boundaries-in-requires c κs =
-    let args = c .before .before .before .before .before .before .before .before .before .before .before .before .before .before .before .before .before .args in
-    let pre = c .before .before .before .before .before .before .before .before .before .before .before .before .before .before .before .before .before .pre in
-    (pre .0, (subst (λ (n : ℕ). StrictlyRises 0 n (args .nuclei .now)) (sym (pre .0 .3)) (pre .1 .0), (runs-ready (args .pitch .now) (length (args .level .now)) (pre .0 .3 ∙ sym (pre .0 .4)) (omega (arith, pre .0)) (c .before .before .before .before .before .before .before .before .syllable-runs .ensures), omega (arith, pre .0, pre .1 .1))))
+put-taken-requires : tie.Need-put-taken-requires
+put-taken-requires c κs = (omega (arith, c .before .before .before .before .before .before .before .before .before .before .before .before .before .before .before .before .pre .0), omega (arith, c .before .before .before .before .before .before .before .before .before .before .before .before .before .before .before .before .pre .0, c .before .before .before .before .before .before .before .before .before .before .before .before .before .before .before .before .pre .1 .1))
 
 same-length : tie.Need-same-length
 same-length c = search needs
 
 returns : tie.Need-returns
 returns c =
-    let args = c .before .before .before .before .before .before .before .before .before .before .before .before .before .before .before .before .before .before .before .before .args in
-    over-is (args .db .now) (args .pitch .now) (args .voiced .now) (args .start) (args .end) (args .nuclei .now) (args .level .now) (args .threshold) (args .dip) (c .before .before .before .before .before .before .before .before .before .before .before .syllable-runs .ensures) (c .before .before .before .before .before .before .before .creak-marks .ensures) (c .before .before .boundaries-in .ensures)
+    let e = spread-flags (c .before .before .before .before .before .before .before .before .before .before .before .creak-marks .ensures) in
+    whole-listed (c .before .before .before .before .before .before .before .before .before .before .before .before .before .before .before .before .before .before .before .args .db .now) (c .before .before .before .before .before .before .before .before .before .before .before .before .before .before .before .before .before .before .before .args .level .now) (c .before .before .before .before .before .before .before .before .before .before .before .before .before .before .before .before .before .before .before .args .pitch .now) (c .before .before .before .before .before .before .before .before .before .before .before .before .before .before .before .before .before .before .before .args .voiced .now) (c .before .before .before .before .before .before .before .before .before .before .before .before .before .before .before .before .before .before .before .args .b) (c .before .before .before .before .before .before .before .before .before .before .before .before .before .before .before .before .before .before .before .args .dip) (c .before .before .before .before .before .before .before .before .before .before .before .before .before .before .before .before .before .before .before .args .nuclei .now) (c .before .before .before .before .before .before .before .before .before .before .before .before .before .before .before .before .before .before .before .pre .0 .0) (omega (arith, c .before .before .before .before .before .before .before .before .before .before .before .before .before .before .before .before .before .before .before .pre .0))
+    (rw e at (c .before .before .before .before .before .before .before .before .keep-edges .ensures none-taken)) (rw e at (c .before .before .before .before .before .add-minima .ensures)) (c .before .before .put-taken .ensures)
 
 pub boundaries-over-spec : {M : Type 1} → statement M
 boundaries-over-spec =
     tie.close
     (tie.spec
-    slice-aggregate-syllable-runs
-    slice-aggregate-syllable-runs-2
-    syllable-runs-requires
+    mul-cap
+    add-cap
     creak-marks-requires
-    array-share-prefix-first
-    slice-aggregate-boundaries-in
-    array-share-prefix-last
-    slice-aggregate-boundaries-in-2
-    boundaries-in-requires
+    keep-edges-requires
+    add-minima-requires
+    put-taken-requires
     same-length
     returns)

@@ -1,8 +1,8 @@
 -- `boundaries::boundaries_with` meets its contract. Assumes nothing.
 use borrow.Author.Needs.{needs}
 use mathlib.Core.Path.{sym}
-use Rattle.lists.proofs.Fill.{listed-count}
-use Rattle.boundaries.proofs.Whole.{level-listed, with-is}
+use Rattle.lists.proofs.Fill.{listed-take, listed-count}
+use Rattle.boundaries.proofs.Whole.{level-listed}
 use Rattle.boundaries.proofs.boundaries_with.Statement.{statement}
 use Rattle.boundaries.proofs.boundaries_with.Tie as tie
 
@@ -22,17 +22,13 @@ slice-aggregate-boundaries-over : tie.Need-slice-aggregate-boundaries-over
 slice-aggregate-boundaries-over c = listed-count (level-listed (c .before .before .before .before .before .before .before .before .before .before .args .db .now) (c .before .before .before .smoothed-db .ensures))
 
 boundaries-over-requires : tie.Need-boundaries-over-requires
-boundaries-over-requires c κs =
-    let pre = c .before .before .before .before .before .before .before .before .before .before .before .pre in
-    ((pre .0 .0, pre .0 .1, pre .0 .2, sym (listed-count (level-listed (c .before .before .before .before .before .before .before .before .before .before .before .args .db .now) (c .before .before .before .before .smoothed-db .ensures))), pre .0 .3, pre .0 .4), (pre .1 .0, pre .1 .1))
+boundaries-over-requires c κs = ((c .before .before .before .before .before .before .before .before .before .before .before .pre .0 .0, c .before .before .before .before .before .before .before .before .before .before .before .pre .0 .1, c .before .before .before .before .before .before .before .before .before .before .before .pre .0 .2, sym (listed-count (level-listed (c .before .before .before .before .before .before .before .before .before .before .before .args .db .now) (c .before .before .before .before .smoothed-db .ensures))), c .before .before .before .before .before .before .before .before .before .before .before .pre .0 .3, c .before .before .before .before .before .before .before .before .before .before .before .pre .0 .4), (c .before .before .before .before .before .before .before .before .before .before .before .pre .1 .0, c .before .before .before .before .before .before .before .before .before .before .before .pre .1 .1))
 
 same-length : tie.Need-same-length
 same-length c = search needs
 
 returns : tie.Need-returns
-returns c =
-    let args = c .before .before .before .before .before .before .before .before .before .before .before .before .before .before .args in
-    with-is (args .db .now) (args .pitch .now) (args .voiced .now) (args .start) (args .end) (args .nuclei .now) (args .p) (level-listed (args .db .now) (c .before .before .before .before .before .before .before .smoothed-db .ensures)) (c .before .before .before .before .before .speech-threshold .ensures) (c .before .before .boundaries-over .ensures)
+returns c = rw (listed-take (level-listed (c .before .before .before .before .before .before .before .before .before .before .before .before .before .before .args .db .now) (c .before .before .before .before .before .before .before .smoothed-db .ensures)), c .before .before .before .before .before .speech-threshold .ensures) at (c .before .before .boundaries-over .ensures)
 
 pub boundaries-with-spec : {M : Type 1} → statement M
 boundaries-with-spec =

@@ -10,7 +10,7 @@ use Rattle.lists.proofs.Entries.{each-at}
 use Rattle.lists.proofs.Members.{strict-each, strict-at}
 use Rattle.smooth.specs.declared.extrema.Extremum.the-variants.{Min}
 use Rattle.smooth.proofs.Best.{middle-within}
-use Rattle.extra.specs.Merging.{marked}
+use Rattle.region.specs.Speech.{marked}
 use Rattle.extra.specs.Extra.{edgesBetween}
 use Rattle.extra.proofs.Edging.{between-few, between-step, between-over}
 use Rattle.extra.proofs.edges_between.Statement.{statement}

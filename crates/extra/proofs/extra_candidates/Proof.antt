@@ -36,11 +36,13 @@ array-share-prefix-s c = search needs
 slice-aggregate-extras-over : tie.Need-slice-aggregate-extras-over
 slice-aggregate-extras-over c = sym (length-take-le _ _ (omega arith))
 
+bounds-over-requires : tie.Need-bounds-over-requires
+bounds-over-requires c κs = search needs
+
 extras-over-requires : tie.Need-extras-over-requires
 extras-over-requires c κs =
-    let a = c .before .before .before .before .before .before .before .before .before .before .before .before .before .before .before .before .before .before .before .before in
-    let e = length-take-le (length (a .args .db .now)) (c .before .before .before .before .before .smoothed-db .last .1 .0) (omega arith) in
-    (omega arith, omega arith, omega arith, omega arith, omega arith, omega arith, omega arith)
+    let e = length-take-le (length (c .before .before .before .before .before .before .before .before .before .before .before .before .before .before .before .before .before .before .before .before .args .db .now)) (c .before .before .before .before .before .before .smoothed-db .last .1 .0) (omega arith) in
+    rw (c .before .before .before .bounds-over .ensures) (((omega arith, omega arith, omega arith), omega arith), (omega arith, omega arith, omega arith))
 
 same-length : tie.Need-same-length
 same-length c = search needs
@@ -53,8 +55,8 @@ same-length-3 c = search needs
 
 returns-3 : tie.Need-returns-3
 returns-3 c =
-    let a = c .before .before .before .before .before .before .before .before .before .before .before .before .before .before .before .before .before .before .before .before .before .before .before .before .before .before .before in
-    extras-floored _ _ _ _ _ _ _ (c .before .before .before .before .before .before .before .before .before .before .before .before .before .before .before .before .before .before .before .if1 .left) (sym (c .before .before .before .before .before .before .before .before .before .before .before .before .before .before .before .before .before .before .floor-db .ensures) ∙ c .before .before .before .before .before .before .before .before .before .before .before .before .before .before .before .before .floor .given .1) (rw (level-take (a .args .db .now) _ (c .before .before .before .before .before .before .before .before .before .before .before .before .smoothed-db .ensures)) at (c .before .before .before .before .before .before .extras-over .ensures))
+    let l = level-take (c .before .before .before .before .before .before .before .before .before .before .before .before .before .before .before .before .before .before .before .before .before .before .before .before .before .before .before .args .db .now) _ (c .before .before .before .before .before .before .before .before .before .before .before .before .before .smoothed-db .ensures) in
+    extras-floored _ _ _ _ _ _ _ (c .before .before .before .before .before .before .before .before .before .before .before .before .before .before .before .before .before .before .before .if1 .left) (sym (c .before .before .before .before .before .before .before .before .before .before .before .before .before .before .before .before .before .before .floor-db .ensures) ∙ c .before .before .before .before .before .before .before .before .before .before .before .before .before .before .before .before .floor .given .1) (rw (l, c .before .before .before .before .before .before .before .before .before .before .bounds-over .ensures) at (c .before .before .before .before .before .before .extras-over .ensures))
 
 pub extra-candidates-spec : {M : Type 1} → statement M
 extra-candidates-spec =
@@ -69,6 +71,7 @@ extra-candidates-spec =
     smoothed-db-requires
     array-share-prefix-s
     slice-aggregate-extras-over
+    bounds-over-requires
     extras-over-requires
     same-length
     same-length-2

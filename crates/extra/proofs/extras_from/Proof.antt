@@ -1,5 +1,6 @@
 -- `extra::extras_from` meets its contract: the parts are composed. Assumes nothing.
 use borrow.Author.Needs.{needs}
+use native.Mathlib.Omega.{arith}
 use mathlib.Core.Path.{sym}
 use lib.Seq.{length-take-le}
 use Rattle.extra.proofs.extras_from.Statement.{statement}
@@ -12,7 +13,7 @@ slice-aggregate-gather-2 : tie.Need-slice-aggregate-gather-2
 slice-aggregate-gather-2 c = search needs
 
 gather-requires : tie.Need-gather-requires
-gather-requires c κs = search needs
+gather-requires c κs = (c .before .before .before .before .before .before .before .before .before .before .pre .0, (c .before .before .before .before .before .before .before .before .before .before .pre .1 .0, (omega arith, omega arith)))
 
 array-share-prefix-found : tie.Need-array-share-prefix-found
 array-share-prefix-found c = search needs
@@ -21,7 +22,7 @@ slice-aggregate-write-extras : tie.Need-slice-aggregate-write-extras
 slice-aggregate-write-extras c = sym (length-take-le _ _ (c .before .before .before .gather .ensures .0 .within))
 
 write-extras-requires : tie.Need-write-extras-requires
-write-extras-requires c κs = search needs
+write-extras-requires c κs = (c .before .before .before .before .before .before .before .before .before .before .before .before .before .before .before .before .pre .0 .0, c .before .before .before .before .before .before .before .before .before .before .before .before .before .before .before .before .pre .1 .1 .0, c .before .before .before .before .before .before .before .before .before .before .before .before .before .before .before .before .pre .1 .1 .1)
 
 array-share-prefix-between : tie.Need-array-share-prefix-between
 array-share-prefix-between c = search needs
@@ -30,7 +31,7 @@ slice-aggregate-in-order : tie.Need-slice-aggregate-in-order
 slice-aggregate-in-order c = sym (length-take-le _ _ (c .before .before .before .before .before .before .before .before .before .before .before .gather .ensures .1 .within))
 
 in-order-requires : tie.Need-in-order-requires
-in-order-requires c κs = search needs
+in-order-requires c κs = (omega (arith, c .before .before .before .before .before .before .before .before .before .before .before .before .before .before .before .before .before .before .before .before .before .before .before .pre .0), omega (arith, c .before .before .before .before .before .before .before .before .before .before .before .before .before .before .before .before .before .before .before .before .before .before .before .pre .1 .1))
 
 same-length : tie.Need-same-length
 same-length c = search needs

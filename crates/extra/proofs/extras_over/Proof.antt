@@ -28,7 +28,7 @@ slice-aggregate-merged-2 c = search needs
 merged-requires : tie.Need-merged-requires
 merged-requires c κs =
     let a = c .before .before .before .before .before .before .before .before .before .before .before .before in
-    (a .pre .0, omega arith, listed-rises _ (c .before .before .before .unpitched-peaks .ensures) (peaks-rise _ _ _ _))
+    (a .pre .0 .0 .0, omega arith, listed-rises _ (c .before .before .before .unpitched-peaks .ensures) (peaks-rise _ _ _ _))
 
 array-share-prefix-peaks-2 : tie.Need-array-share-prefix-peaks-2
 array-share-prefix-peaks-2 c = listed-fits (c .before .before .before .before .before .unpitched-peaks .ensures)
@@ -45,7 +45,7 @@ slice-aggregate-extras-from-2 c = sym (length-take-le _ _ (c .before .before .be
 extras-from-requires : tie.Need-extras-from-requires
 extras-from-requires c κs =
     let a = c .before .before .before .before .before .before .before .before .before .before .before .before .before .before .before .before .before .before .before in
-    (a .pre .0, a .pre .2, a .pre .3, listed-rises _ (c .before .before .before .before .before .before .before .before .before .before .unpitched-peaks .ensures) (peaks-rise _ _ _ _), front-rises _ (c .before .before .before .before .before .before .merged .ensures) (anchors-rise _ _ _ _), a .pre .4, a .pre .5, a .pre .6)
+    (a .pre .0 .0, ((listed-rises _ (c .before .before .before .before .before .before .before .before .before .before .unpitched-peaks .ensures) (peaks-rise _ _ _ _), front-rises _ (c .before .before .before .before .before .before .merged .ensures) (anchors-rise _ _ _ _)), (a .pre .1 .0, a .pre .1 .1, a .pre .1 .2)))
 
 same-length : tie.Need-same-length
 same-length c = search needs

@@ -5,12 +5,11 @@ use Prim.Native.Nat.{_≤_}
 use mathlib.Core.Path.{_≡_, sym, _∙_}
 use lib.ListN.{length}
 use Rattle.lists.proofs.Fill.{filter-le}
-use Rattle.lists.proofs.Members.{strict-few}
-use Rattle.extra.specs.Merging.{marked}
+use Rattle.lists.proofs.Members.{strict-to, strict-below, strict-few}
+use Rattle.region.specs.Speech.{marked}
 use Rattle.extra.specs.Seconds.{frameOf}
 use Rattle.extra.specs.Extra.{candidates, sides}
-use Rattle.extra.proofs.Voiceless.{strict-to}
-use Rattle.extra.proofs.Anchoring.{marked-is, narrow}
+use Rattle.extra.proofs.Anchoring.{marked-is}
 use Rattle.extra.proofs.Edging.{between-few}
 use Rattle.extra.proofs.Whole.{room-after, appended, seconds-count}
 use Rattle.extra.proofs.gather.Statement.{statement}
@@ -22,25 +21,25 @@ marks-requires c κs = search needs
 those-marked-requires : tie.Need-those-marked-requires
 those-marked-requires c κs =
     let a = c .before .before .before .before .before .before .before .before .before .before in
-    (strict-to 0 (length (a .args .s .now)) 2048 (a .args .kept .now) (a .pre .0) (a .pre .4), omega (arith, strict-few 0 (length (a .args .s .now)) (a .args .kept .now) (omega arith) (a .pre .4), a .pre .0, a .pre .5))
+    (strict-to 0 (length (a .args .s .now)) 2048 (a .args .kept .now) (a .pre .0 .0) (a .pre .1 .0 .1), omega (arith, strict-few 0 (length (a .args .s .now)) (a .args .kept .now) (omega arith) (a .pre .1 .0 .1), a .pre .0 .0, a .pre .1 .1 .0))
 
 edges-between-requires : tie.Need-edges-between-requires
 edges-between-requires c κs =
     let a = c .before .before .before .before .before .before .before .before .before .before .before .before .before .before .before in
-    (a .pre .0, a .pre .4, omega (arith, strict-few 0 (length (a .args .s .now)) (a .args .kept .now) (omega arith) (a .pre .4), a .pre .0, a .pre .6))
+    (a .pre .0 .0, a .pre .1 .0 .1, omega (arith, strict-few 0 (length (a .args .s .now)) (a .args .kept .now) (omega arith) (a .pre .1 .0 .1), a .pre .0 .0, a .pre .1 .1 .1))
 
 -- how many are written first, and that the list is as long as it was
 lone : (c : tie.After-those-marked) → (c .those-marked .result ≤ 2048) × (4096 ≤ length (c .those-marked .last .1 .1 .0))
 lone c =
     let a = c .before .before .before .before .before .before .before .before .before .before .before in
     let kept = a .args .kept .now in
-    (omega (arith, c .those-marked .ensures .count, filter-le (marked (c .before .before .before .marks .result)) kept, strict-few 0 (length (a .args .s .now)) kept (omega arith) (a .pre .4), a .pre .0), omega (arith, c .those-marked .kept .1 .1 .0, a .pre .5))
+    (omega (arith, c .those-marked .ensures .count, filter-le (marked (c .before .before .before .marks .result)) kept, strict-few 0 (length (a .args .s .now)) kept (omega arith) (a .pre .1 .0 .1), a .pre .0 .0), omega (arith, c .those-marked .kept .1 .1 .0, a .pre .1 .1 .0))
 
 between : (c : tie.After-edges-between) → (c .edges-between .result ≤ 2048) × (4096 ≤ length (c .edges-between .last .1 .1 .1 .0))
 between c =
     let a = c .before .before .before .before .before .before .before .before .before .before .before .before .before .before .before .before in
     let kept = a .args .kept .now in
-    (omega (arith, c .edges-between .ensures .count, between-few (a .args .s .now) (marked (c .before .before .before .before .before .before .before .before .marks .result)) kept, strict-few 0 (length (a .args .s .now)) kept (omega arith) (a .pre .4), a .pre .0), omega (arith, c .edges-between .kept .1 .1 .1 .0, a .pre .6))
+    (omega (arith, c .edges-between .ensures .count, between-few (a .args .s .now) (marked (c .before .before .before .before .before .before .before .before .marks .result)) kept, strict-few 0 (length (a .args .s .now)) kept (omega arith) (a .pre .1 .0 .1), a .pre .0 .0), omega (arith, c .edges-between .kept .1 .1 .1 .0, a .pre .1 .1 .1))
 
 mul-second-syllables : tie.Need-mul-second-syllables
 mul-second-syllables c = omega (arith, lone (c .before .before .before .before .before .before .before))
@@ -69,12 +68,12 @@ part-second-syllables-end-2 c = search needs
 second-syllables-requires : tie.Need-second-syllables-requires
 second-syllables-requires c κs =
     let a = c .before .before .before .before .before .before .before .before .before .before .before .before .before .before .before .before .before .before .before .before in
-    (omega (arith, a .pre .2, a .pre .0), a .pre .1 ∙ sym (a .pre .2), strict-to 0 (length (a .args .s .now)) 2048 (a .args .kept .now) (a .pre .0) (a .pre .4), room-after (c .before .before .before .before .before .before .before .before .before .those-marked .last .1 .1 .0) (c .before .before .before .before .before .before .before .before .before .those-marked .result) (length (a .args .son .now)) (omega (arith, lone (c .before .before .before .before .before .before .before .before .before), a .pre .2, a .pre .0)), room-after (c .before .before .before .before .edges-between .last .1 .1 .1 .0) (c .before .before .before .before .edges-between .result) (length (a .args .son .now)) (omega (arith, between (c .before .before .before .before), a .pre .2, a .pre .0)))
+    (omega (arith, a .pre .0 .2, a .pre .0 .0), a .pre .0 .1 ∙ sym (a .pre .0 .2), strict-to 0 (length (a .args .s .now)) 2048 (a .args .kept .now) (a .pre .0 .0) (a .pre .1 .0 .1), room-after (c .before .before .before .before .before .before .before .before .before .those-marked .last .1 .1 .0) (c .before .before .before .before .before .before .before .before .before .those-marked .result) (length (a .args .son .now)) (omega (arith, lone (c .before .before .before .before .before .before .before .before .before), a .pre .0 .2, a .pre .0 .0)), room-after (c .before .before .before .before .edges-between .last .1 .1 .1 .0) (c .before .before .before .before .edges-between .result) (length (a .args .son .now)) (omega (arith, between (c .before .before .before .before), a .pre .0 .2, a .pre .0 .0)))
 
 many : (c : tie.After-slice-known6) → c .before .before .before .before .second-syllables .result ≤ 2048
 many c =
     let a = c .before .before .before .before .before .before .before .before .before .before .before .before .before .before .before .before .before .before .before .before .before .before .before .before .before in
-    omega (arith, seconds-count frameOf (a .args .pitch .now) (a .args .son .now) (a .args .kept .now) (c .before .before .before .before .second-syllables .ensures .0), a .pre .1, a .pre .0)
+    omega (arith, seconds-count frameOf (a .args .pitch .now) (a .args .son .now) (a .args .kept .now) (c .before .before .before .before .second-syllables .ensures .0), a .pre .0 .1, a .pre .0 .0)
 
 add-t19 : tie.Need-add-t19
 add-t19 c = omega (arith, lone (c .before .before .before .before .before .before .before .before .before .before .before .before .before .before), many c)
@@ -94,7 +93,7 @@ returns c =
     let a = c .before .before .before .before .before .before .before .before .before .before .before .before .before .before .before .before .before .before .before .before .before .before .before .before .before in
     let m = c .before .before .before .before .before .before .before .before .before .before .before .before .before .before .before .before .before .marks in
     let k : length (m .result) ≡ 2048 = search (needs, m .ok) in
-    let e = marked-is (a .args .peaks .now) (m .result) (m .ensures) k (narrow (length (a .args .s .now)) (a .args .peaks .now) (a .pre .0) (a .pre .3)) in
+    let e = marked-is (a .args .peaks .now) (m .result) (m .ensures) k (strict-below 0 2048 (a .args .peaks .now) (strict-to 0 (length (a .args .s .now)) 2048 (a .args .peaks .now) (a .pre .0 .0) (a .pre .1 .0 .0))) in
     (rw e at (appended (c .before .before .before .before .before .before .before .before .before .before .before .before .before .before .those-marked .ensures) (c .before .before .before .before .second-syllables .ensures .0)), rw e at (appended (c .before .before .before .before .before .before .before .before .before .edges-between .ensures) (c .before .before .before .before .second-syllables .ensures .1)))
 
 pub gather-spec : {M : Type 1} → statement M

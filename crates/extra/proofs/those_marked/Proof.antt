@@ -9,7 +9,7 @@ use Rattle.lists.specs.Results.{filter}
 use Rattle.lists.proofs.Fill.{Filling, fill-start, fill-length, fill-push, fill-end, fill-fits, filter-le, filter-over, sift-yes, sift-no}
 use Rattle.lists.proofs.Entries.{each-at}
 use Rattle.lists.proofs.Members.{strict-each}
-use Rattle.extra.specs.Merging.{marked}
+use Rattle.region.specs.Speech.{marked}
 use Rattle.extra.proofs.those_marked.Statement.{statement}
 use Rattle.extra.proofs.those_marked.Tie as tie
 

@@ -21,7 +21,7 @@ slice-aggregate-peaks-onto c = listed-count (c .before .before .local-extrema .e
 peaks-onto-requires : tie.Need-peaks-onto-requires
 peaks-onto-requires c κs =
     let a = c .before .before .before .before .before .before .before .before .before .before in
-    (a .pre .3, a .pre .2, a .pre .1, omega (arith, extrema-room (a .args .s .now) (a .args .b) (c .before .before .before .local-extrema .ensures)))
+    (a .pre .1, a .pre .2, omega (arith, extrema-room (a .args .s .now) (a .args .b) (c .before .before .before .local-extrema .ensures)))
 
 slice-reshare-prefix-runs-held : tie.Need-slice-reshare-prefix-runs-held
 slice-reshare-prefix-runs-held c = listed-fits (c .before .before .peaks-onto .ensures)
@@ -35,7 +35,7 @@ slice-aggregate-runs-held-2 c = search needs
 runs-held-requires : tie.Need-runs-held-requires
 runs-held-requires c κs =
     let a = c .before .before .before .before .before .before .before .before .before .before .before .before .before .before .before in
-    (a .pre .2, a .pre .1, omega (arith, peaks-room _ _ (c .before .before .before .before .before .before .before .before .local-extrema .ensures) _ _ (c .before .before .before .before .peaks-onto .ensures)))
+    (a .pre .2, omega (arith, peaks-room _ _ (c .before .before .before .before .before .before .before .before .local-extrema .ensures) _ _ (c .before .before .before .before .peaks-onto .ensures)))
 
 array-share-prefix-held : tie.Need-array-share-prefix-held
 array-share-prefix-held c = listed-fits (c .before .runs-held .ensures)
@@ -47,7 +47,7 @@ run-tops-requires : tie.Need-run-tops-requires
 run-tops-requires c κs =
     let a = c .before .before .before .before .before .before .before .before .before .before .before .before .before .before .before .before .before .before .before in
     let q = c .before .before .before .before .before .before .before .before .peaks-onto in
-    (a .pre .0, a .pre .3, a .pre .2, a .pre .1, omega (arith, listed-count (q .ensures), peaks-room _ _ (c .before .before .before .before .before .before .before .before .before .before .before .before .local-extrema .ensures) _ _ (q .ensures), q .kept .1 .1 .1 .1 .1 .1 .0))
+    (a .pre .0, a .pre .1, a .pre .2, omega (arith, listed-count (q .ensures), peaks-room _ _ (c .before .before .before .before .before .before .before .before .before .before .before .before .local-extrema .ensures) _ _ (q .ensures), q .kept .1 .1 .1 .1 .1 .1 .0))
 
 same-length : tie.Need-same-length
 same-length c = search needs

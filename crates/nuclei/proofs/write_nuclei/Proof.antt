@@ -1,10 +1,11 @@
 -- `nuclei::write_nuclei` meets its contract: what the frames from i on give is to come. Assumes nothing.
 use borrow.Author.Needs.{needs}
 use native.Mathlib.Omega.{arith}
-use Prim.Native.Nat.{_-_, _≤_}
+use Prim.Native.Nat.{ℕ, _-_, _≤_, _<_}
 use mathlib.Core.List.{map}
 use lib.ListN.{length, drop, length-map, drop-of-length-le}
 use Rattle.lists.proofs.Fill.{Filling, fill-start, fill-length, fill-push, fill-end, drop-step}
+use Rattle.lists.proofs.Entries.{each-at}
 use Rattle.nuclei.specs.Nuclei.{nucleusAt, framesOf, strengthsOf}
 use Rattle.nuclei.proofs.write_nuclei.Statement.{statement}
 use Rattle.nuclei.proofs.write_nuclei.Tie as tie
@@ -34,10 +35,10 @@ cast-strengths : tie.Need-cast-strengths Inv-loop μ-loop
 cast-strengths c = omega (arith, c .shared-slice-known .given (c .before .before .loop .i))
 
 mul-strengths : tie.Need-mul-strengths Inv-loop μ-loop
-mul-strengths c = omega (arith, c .before .before .before .pre .2 (c .before .before .loop .i) (c .before .loop-test .taken))
+mul-strengths c = omega (arith, each-at (λ (x : ℕ). x < length (c .before .before .before .args .s .now)) (c .before .before .before .args .kept .now) 0 (c .before .before .before .pre .2) (c .before .before .loop .i) (c .before .loop-test .taken))
 
 shared-slice-read-strengths : tie.Need-shared-slice-read-strengths Inv-loop μ-loop
-shared-slice-read-strengths c = c .before .before .before .before .pre .2 (c .before .before .before .loop .i) (c .before .before .loop-test .taken)
+shared-slice-read-strengths c = each-at (λ (x : ℕ). x < length (c .before .before .before .before .args .s .now)) (c .before .before .before .before .args .kept .now) 0 (c .before .before .before .before .pre .2) (c .before .before .before .loop .i) (c .before .before .loop-test .taken)
 
 mul-strengths-2 : tie.Need-mul-strengths-2 Inv-loop μ-loop
 mul-strengths-2 c = search needs

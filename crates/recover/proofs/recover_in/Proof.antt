@@ -4,8 +4,10 @@ use mathlib.Core.Path.{sym, ap, subst, _∙_}
 use native.Mathlib.Nat.{le-trans, le-of-eq}
 use lib.ListN.{length}
 use Rattle.lists.specs.By.{Each}
+use Rattle.lists.proofs.Fill.{listed-all}
 use Rattle.nsdf.specs.Period.{periodHz}
-use Rattle.recover.specs.Estimates.{Held}
+use Rattle.nsdf.proofs.Range.{period-range}
+use Rattle.powers.specs.Pitch.{PitchOrNone}
 use Rattle.recover.proofs.Trying.{length-held}
 use Rattle.recover.proofs.Whole.{all-held, whole}
 use Rattle.recover.proofs.recover_in.Statement.{statement}
@@ -19,13 +21,15 @@ estimates-requires c κs = search needs
 
 recover-stretches-requires : tie.Need-recover-stretches-requires
 recover-stretches-requires c κs =
-    let s = c .before .before .before .before .before .before .before .before .before .before .before .before .before .before .before .before .before .before in
+    let e = c .before .before .before .before .before in
+    let k = e .before .before .before .before .before in
+    let s = k .before .before .before .before .before .before .before .before in
     let a = s .args in
-    let found = c .before .before .before .before .before .estimates .ensures in
-    let given = c .before .before .before .before .before .before .before .before .before .before .copy .ensures in (
-      subst (Each Held) (sym found) (all-held (a .pitch .now) (a .samples .now) (a .speech .now) (a .vowel .now)),
+    let x = a .samples .now in
+    let given = listed-all (k .copy .ensures) (le-of-eq (s .pre .1 .1)) in (
+      subst (Each (PitchOrNone 60 600)) (sym (e .estimates .ensures)) (all-held (periodHz x) (period-range x) (a .pitch .now) (a .speech .now) (a .vowel .now)),
       (
-        ap length found ∙ length-held (periodHz (a .samples .now)) (a .pitch .now) (a .speech .now) (a .vowel .now) ∙ ap length (sym given),
+        ap length (e .estimates .ensures) ∙ length-held (periodHz x) (a .pitch .now) (a .speech .now) (a .vowel .now) ∙ ap length (sym given),
         (le-trans (le-of-eq (ap length given)) (s .pre .0), sym given),
       ),
     )
@@ -41,8 +45,13 @@ same-length-3 c = search needs
 
 returns : tie.Need-returns
 returns c =
-    let a = c .before .before .before .before .before .before .before .before .before .before .before .before .before .before .before .before .before .before .before .before .before .args in
-    c .before .before .recover-stretches .ensures ∙ whole (a .pitch .now) (a .samples .now) (a .speech .now) (a .vowel .now) (c .before .before .before .before .before .before .before .before .before .before .before .before .before .copy .ensures) (c .before .before .before .before .before .before .before .before .estimates .ensures)
+    let w = c .before .before in
+    let e = w .before .before .before .before .before .before in
+    let k = e .before .before .before .before .before in
+    let s = k .before .before .before .before .before .before .before .before in
+    let a = s .args in
+    let x = a .samples .now in
+    w .recover-stretches .ensures ∙ whole (periodHz x) (period-range x) (a .pitch .now) (a .speech .now) (a .vowel .now) (listed-all (k .copy .ensures) (le-of-eq (s .pre .1 .1))) (e .estimates .ensures)
 
 pub recover-in-spec : {M : Type 1} → statement M
 recover-in-spec =

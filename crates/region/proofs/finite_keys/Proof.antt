@@ -1,10 +1,11 @@
 -- `region::finite_keys` meets its contract. The loop's invariant: of the places of the finite entries, those of the first i frames are written and those from i on are to come. Assumes nothing.
-use mathlib.Core.Path.{sym, _∙_, subst}
+use mathlib.Core.Path.{sym, _∙_}
 use mathlib.Core.List.{_∷_}
-use Prim.Native.Nat.{ℕ, _+_, _-_, _≤_}
+use mathlib.Core.Logic.{⊎-elim}
+use Prim.Native.Nat.{_+_, _-_, _≤_}
 use native.Mathlib.Omega.{arith}
 use borrow.Author.Needs.{needs}
-use lib.ListN.{length, getD, set, length-map}
+use lib.ListN.{length, getD, length-map}
 use lib.Ieee.{nan}
 use lib.Ieee.Scale.{finite}
 use Rattle.floats.specs.Total.{totalKey}
@@ -64,20 +65,16 @@ loop-less c = omega arith
 
 loop-again : tie.Need-loop-again Inv-loop μ-loop
 loop-again c =
-    let l = c .before .before .before .before .before in
-    let s = l .before .before .before .args in
-    (omega arith, subst (λ (k : ℕ). Filling (keysFrom (s .db .now) 0) (keysFrom (s .db .now) (l .loop .i + 1)) (s .keys .now) (set (l .loop .keys) (l .loop .n) k) (l .loop .n + 1)) (sym (c .total-key .ensures)) (fill-push (pending c)))
-
-add-i-2 : tie.Need-add-i-2 Inv-loop μ-loop
-add-i-2 c = omega arith
-
-loop-less-2 : tie.Need-loop-less-2 Inv-loop μ-loop
-loop-less-2 c = omega arith
-
-loop-again-2 : tie.Need-loop-again-2 Inv-loop μ-loop
-loop-again-2 c =
     let l = c .before .before .before .before in
-    (omega arith, key-none (l .before .before .before .args .db .now) (l .loop .i) (c .before .before .before .loop-test .taken) (sym (c .before .is-finite .ensures) ∙ c .if1 .left) (l .loop .inv .1))
+    let db = l .before .before .before .args .db .now in
+    let h = c .before .before .before .loop-test .taken in
+    let e = sym (c .before .is-finite .ensures) in (
+      omega arith,
+      ⊎-elim
+          (λ w. rw (w .2, w .3, w .1 .ensures) (fill-push (key-next db (l .loop .i) h (e ∙ w .0 .taken) (l .loop .inv .1))))
+          (λ w. rw (w .1, w .2) (key-none db (l .loop .i) h (e ∙ w .0 .left) (l .loop .inv .1)))
+          (c .if1 .came),
+    )
 
 same-length : tie.Need-same-length Inv-loop μ-loop
 same-length c = fill-length (c .before .loop .inv .1)
@@ -86,4 +83,4 @@ returns : tie.Need-returns Inv-loop μ-loop
 returns c = fill-end (key-end (c .before .before .before .before .args .db .now) (c .before .loop .i) (c .loop-test .left) (c .before .loop .inv .1))
 
 pub finite-keys-spec : {M : Type 1} → statement M
-finite-keys-spec = tie.close (tie.spec Inv-loop μ-loop loop-holds mul-d shared-slice-read-d is-finite-requires total-key-requires mul-keys slice-write-keys add-n add-i loop-less loop-again add-i-2 loop-less-2 loop-again-2 same-length returns)
+finite-keys-spec = tie.close (tie.spec Inv-loop μ-loop loop-holds mul-d shared-slice-read-d is-finite-requires total-key-requires mul-keys slice-write-keys add-n add-i loop-less loop-again same-length returns)

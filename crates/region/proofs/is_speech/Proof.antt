@@ -1,5 +1,5 @@
 -- `region::is_speech` meets its contract. Assumes nothing.
-use mathlib.Core.Path.{_≡_, refl}
+use mathlib.Core.Path.{_≡_, refl, _∙_}
 use mathlib.Core.Bool.{true, false, false≢true}
 use lib.Ieee.{Float, nan, inf, fin, binary32, lt, ofBits, nanBits}
 use Rattle.region.specs.Speech.{speech}
@@ -29,7 +29,7 @@ returns : tie.Need-returns
 returns c = above (c .before .args .threshold) (c .before .args .d) (c .if1 .taken)
 
 returns-2 : tie.Need-returns-2
-returns-2 c = under (c .before .args .threshold) (c .before .args .d) (c .if1 .left)
+returns-2 c = c .if1 .left ∙ under (c .before .args .threshold) (c .before .args .d) (c .if1 .left)
 
 pub is-speech-spec : {M : Type 1} → statement M
 is-speech-spec = tie.close (tie.spec float-from-bits-result returns returns-2)

@@ -1,13 +1,14 @@
 -- `region::speech_count` meets its contract. The loop's invariant: n and the count of the speech frames from i on make the whole count. Assumes nothing.
-use mathlib.Core.Path.{_≡_, sym, ap, _∙_}
+use mathlib.Core.Path.{_≡_, ap, _∙_}
 use mathlib.Core.Bool.{Bool, true, false, cond}
 use Prim.Native.Nat.{ℕ, _+_, _-_, _≤_}
 use native.Mathlib.Omega.{arith}
 use borrow.Author.Needs.{needs}
 use lib.ListN.{length}
-use Rattle.lists.specs.Results.{keep}
+use Rattle.lists.specs.Results.{moreIf, keep}
+use Rattle.lists.proofs.Counting.{at-most-one, frames-step, frames-end}
 use Rattle.region.specs.Speech.{speechAt, speechFrames}
-use Rattle.region.proofs.Frames.{keep-all, count-step, count-end}
+use Rattle.region.proofs.Frames.{keep-all}
 use Rattle.region.proofs.speech_count.Statement.{statement}
 use Rattle.region.proofs.speech_count.Tie as tie
 
@@ -35,12 +36,13 @@ is-speech-requires c κs = search needs
 one-if-requires : tie.Need-one-if-requires Inv-loop μ-loop
 one-if-requires c κs = search needs
 
-bit : (b : Bool) (r : ℕ) → r ≡ cond b 1 0 → r ≤ 1
-bit true r e = omega arith
-bit false r e = omega arith
+-- what the call of `one_if` adds
+one : (b : Bool) {r : ℕ} → r ≡ cond b 1 0 → r ≡ moreIf b 0
+one true e = e
+one false e = e
 
 add-n : tie.Need-add-n Inv-loop μ-loop
-add-n c = omega (arith, bit (c .before .is-speech .result) (c .one-if .result) (c .one-if .ensures))
+add-n c = omega (arith, at-most-one (c .before .is-speech .result) (one (c .before .is-speech .result) (c .one-if .ensures)))
 
 add-i : tie.Need-add-i Inv-loop μ-loop
 add-i c = omega arith
@@ -56,17 +58,15 @@ loop-again c =
     let n = length (s .db .now) in
     let t = speechAt (s .threshold) (s .db .now) in (
       omega arith,
-      omega (arith, bit (c .before .is-speech .result) (c .one-if .result) (c .one-if .ensures)),
-      ap (λ (m : ℕ). v .n + m + length (keep t (v .i + 1) (n - (v .i + 1)))) (c .one-if .ensures ∙ ap (λ (b : Bool). cond b 1 0) (c .before .is-speech .ensures))
-          ∙ sym (count-step t n (v .i) (v .n) (c .before .before .before .loop-test .taken))
-          ∙ v .inv .2,
+      omega (arith, at-most-one (c .before .is-speech .result) (one (c .before .is-speech .result) (c .one-if .ensures))),
+      frames-step t n (v .i) (v .n) (c .before .before .before .loop-test .taken) (one (t (v .i)) (c .one-if .ensures ∙ ap (λ (b : Bool). cond b 1 0) (c .before .is-speech .ensures))) ∙ v .inv .2,
     )
 
 returns : tie.Need-returns Inv-loop μ-loop
 returns c =
     let s = c .before .before .before .args in
     let v = c .before .loop in
-    sym (count-end (speechAt (s .threshold) (s .db .now)) (length (s .db .now)) (v .i) (v .n) (c .loop-test .left)) ∙ v .inv .2
+    frames-end (speechAt (s .threshold) (s .db .now)) (length (s .db .now)) (v .i) (v .n) (c .loop-test .left) ∙ v .inv .2
 
 pub speech-count-spec : {M : Type 1} → statement M
 speech-count-spec = tie.close (tie.spec Inv-loop μ-loop loop-holds mul-is-speech shared-slice-read-is-speech is-speech-requires one-if-requires add-n add-i loop-less loop-again returns)

@@ -3,7 +3,7 @@ use native.Mathlib.Omega.{arith}
 use mathlib.Core.Path.{ap}
 use borrow.Author.Needs.{needs}
 use Rattle.report.specs.Shown.{shown}
-use Rattle.report.proofs.Parts.{listed-as}
+use Rattle.lists.proofs.Fill.{relisted}
 use Rattle.report.proofs.list_marks.Statement.{statement}
 use Rattle.report.proofs.list_marks.Tie as tie
 
@@ -63,7 +63,7 @@ same-length-8 : tie.Need-same-length-8
 same-length-8 c = search needs
 
 returns : tie.Need-returns
-returns c = listed-as (ap (shown (c .before .before .before .before .before .before .before .before .before .before .before .before .before .before .before .before .before .before .before .before .before .before .before .before .before .before .before .before .before .before .before .before .before .before .before .before .before .before .before .before .before .before .before .before .before .before .before .args .given .now)) (c .before .before .before .before .before .before .before .before .before .before .before .before .before .before .before .before .before .before .before .before .before .before .before .before .before .chain .ensures)) (c .before .before .show .ensures)
+returns c = relisted (ap (shown (c .before .before .before .before .before .before .before .before .before .before .before .before .before .before .before .before .before .before .before .before .before .before .before .before .before .before .before .before .before .before .before .before .before .before .before .before .before .before .before .before .before .before .before .before .before .before .before .args .given .now)) (c .before .before .before .before .before .before .before .before .before .before .before .before .before .before .before .before .before .before .before .before .before .before .before .before .before .chain .ensures)) (c .before .before .show .ensures)
 
 pub list-marks-spec : {M : Type 1} → statement M
 list-marks-spec =

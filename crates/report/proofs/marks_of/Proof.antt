@@ -2,7 +2,8 @@
 use native.Mathlib.Omega.{arith}
 use mathlib.Core.Path.{sym, ap, _∙_}
 use borrow.Author.Needs.{needs}
-use Rattle.report.proofs.Parts.{listed-as, taken-printed, refused-printed}
+use Rattle.lists.proofs.Fill.{relisted}
+use Rattle.report.proofs.Parts.{taken-printed, refused-printed}
 use Rattle.take.proofs.Sizes.{refused-fits}
 use Rattle.take.proofs.Agreement.{admitted}
 use Rattle.take.specs.Listing.{refusedListing}
@@ -21,7 +22,7 @@ same-length : tie.Need-same-length
 same-length c = search needs
 
 returns : tie.Need-returns
-returns c = listed-as (taken-printed (c .before .before .before .before .before .before .before .before .args .held .now) (c .before .before .before .before .before .before .before .before .args .total) (sym (c .before .before .before .before .before .take-refusal .ensures) ∙ c .before .before .before .before .if1 .taken)) (c .before .before .with-tracks .ensures)
+returns c = relisted (taken-printed (c .before .before .before .before .before .before .before .before .args .held .now) (c .before .before .before .before .before .before .before .before .args .total) (sym (c .before .before .before .before .before .take-refusal .ensures) ∙ c .before .before .before .before .if1 .taken)) (c .before .before .with-tracks .ensures)
 
 refused-requires : tie.Need-refused-requires
 refused-requires c κs = omega (arith, refused-fits (c .before .before .take-refusal .result), c .before .before .before .before .before .pre)
@@ -30,7 +31,7 @@ same-length-2 : tie.Need-same-length-2
 same-length-2 c = search needs
 
 returns-2 : tie.Need-returns-2
-returns-2 c = listed-as (ap refusedListing (c .before .before .before .before .before .take-refusal .ensures) ∙ refused-printed (c .before .before .before .before .before .before .before .before .args .held .now) (c .before .before .before .before .before .before .before .before .args .total) (λ e. c .before .before .before .before .if1 .left (c .before .before .before .before .before .take-refusal .ensures ∙ e))) (c .before .before .refused .ensures)
+returns-2 c = relisted (ap refusedListing (c .before .before .before .before .before .take-refusal .ensures) ∙ refused-printed (c .before .before .before .before .before .before .before .before .args .held .now) (c .before .before .before .before .before .before .before .before .args .total) (λ e. c .before .before .before .before .if1 .left (c .before .before .before .before .before .take-refusal .ensures ∙ e))) (c .before .before .refused .ensures)
 
 pub marks-of-spec : {M : Type 1} → statement M
 marks-of-spec =

@@ -4,7 +4,8 @@ use mathlib.Core.Path.{ap}
 use borrow.Author.Needs.{needs}
 use Rattle.take.specs.File.{Take}
 use Rattle.report.specs.Shown.{textOf, unsampled}
-use Rattle.report.proofs.Parts.{listed-as, pitches-same}
+use Rattle.lists.proofs.Fill.{relisted}
+use Rattle.report.proofs.Parts.{pitches-same}
 use Rattle.report.proofs.on_tracks.Statement.{statement}
 use Rattle.report.proofs.on_tracks.Tie as tie
 
@@ -41,7 +42,7 @@ same-length-7 : tie.Need-same-length-7
 same-length-7 c = search needs
 
 returns : tie.Need-returns
-returns c = listed-as (ap (λ (t : Take). textOf (unsampled t)) (c .before .before .before .before .before .before .before .before .before .before .before .before .before .before .before .before .before .before .before .before .before .before .read-take .ensures)) (c .before .before .before .before .with-lists .ensures)
+returns c = relisted (ap (λ (t : Take). textOf (unsampled t)) (c .before .before .before .before .before .before .before .before .before .before .before .before .before .before .before .before .before .before .before .before .before .before .read-take .ensures)) (c .before .before .before .before .with-lists .ensures)
 
 pub on-tracks-spec : {M : Type 1} → statement M
 on-tracks-spec =

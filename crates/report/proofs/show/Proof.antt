@@ -8,9 +8,10 @@ use lib.ListN.{length, take, length-take}
 use lib.Seq.{length-take-le}
 use lib.Ieee.{Float}
 use borrow.Author.Needs.{needs}
-use Rattle.kiddwyr.specs.declared.chain.Marks.{Marks}
-use Rattle.kiddwyr.specs.Chain.{Left}
-use Rattle.report.proofs.Parts.{front-fits, front-shown, refused-shown, listed-as}
+use Rattle.chain.specs.declared.Marks.{Marks}
+use Rattle.chain.specs.Chain.{Left}
+use Rattle.lists.proofs.Fill.{relisted}
+use Rattle.report.proofs.Parts.{front-fits, front-shown, refused-shown}
 use Rattle.take.proofs.Sizes.{refused-fits}
 use Rattle.report.proofs.show.Statement.{statement}
 use Rattle.report.proofs.show.Tie as tie
@@ -21,42 +22,42 @@ shows m left frames strengths xframes xstrengths edges bounds = record { answer 
 same : (is : List ℕ) (xs : List Float) (k : ℕ) → length xs ≡ length is → length (take k is) ≡ length (take k xs)
 same is xs k e = omega (arith, length-take k is, length-take k xs)
 
-least-requires : tie.Need-least-requires
-least-requires c κs = search needs
+smaller-requires : tie.Need-smaller-requires
+smaller-requires c κs = search needs
 
-least-requires-2 : tie.Need-least-requires-2
-least-requires-2 c κs = search needs
+smaller-requires-2 : tie.Need-smaller-requires-2
+smaller-requires-2 c κs = search needs
 
-least-requires-3 : tie.Need-least-requires-3
-least-requires-3 c κs = search needs
+smaller-requires-3 : tie.Need-smaller-requires-3
+smaller-requires-3 c κs = search needs
 
-least-requires-4 : tie.Need-least-requires-4
-least-requires-4 c κs = search needs
+smaller-requires-4 : tie.Need-smaller-requires-4
+smaller-requires-4 c κs = search needs
 
 slice-aggregate-listing : tie.Need-slice-aggregate-listing
-slice-aggregate-listing c = sym (length-take-le _ _ (omega (arith, c .before .before .before .before .least .ensures)))
+slice-aggregate-listing c = sym (length-take-le _ _ (omega (arith, c .before .before .before .before .smaller .ensures)))
 
 slice-aggregate-listing-2 : tie.Need-slice-aggregate-listing-2
-slice-aggregate-listing-2 c = sym (length-take-le _ _ (omega (arith, c .before .before .before .before .before .least .ensures, c .before .before .before .before .before .before .before .before .before .before .before .before .before .before .before .before .pre .0 .1 .strengths)))
+slice-aggregate-listing-2 c = sym (length-take-le _ _ (omega (arith, c .before .before .before .before .before .smaller .ensures, c .before .before .before .before .before .before .before .before .before .before .before .before .before .before .before .before .pre .0 .1 .strengths)))
 
 slice-aggregate-listing-3 : tie.Need-slice-aggregate-listing-3
-slice-aggregate-listing-3 c = sym (length-take-le _ _ (omega (arith, c .before .before .before .before .before .least2 .ensures)))
+slice-aggregate-listing-3 c = sym (length-take-le _ _ (omega (arith, c .before .before .before .before .before .smaller2 .ensures)))
 
 slice-aggregate-listing-4 : tie.Need-slice-aggregate-listing-4
-slice-aggregate-listing-4 c = sym (length-take-le _ _ (omega (arith, c .before .before .before .before .before .before .least2 .ensures, c .before .before .before .before .before .before .before .before .before .before .before .before .before .before .before .before .before .before .pre .0 .1 .xstrengths)))
+slice-aggregate-listing-4 c = sym (length-take-le _ _ (omega (arith, c .before .before .before .before .before .before .smaller2 .ensures, c .before .before .before .before .before .before .before .before .before .before .before .before .before .before .before .before .before .before .pre .0 .1 .xstrengths)))
 
 slice-aggregate-listing-5 : tie.Need-slice-aggregate-listing-5
-slice-aggregate-listing-5 c = sym (length-take-le _ _ (omega (arith, c .before .before .before .before .before .before .least3 .ensures)))
+slice-aggregate-listing-5 c = sym (length-take-le _ _ (omega (arith, c .before .before .before .before .before .before .smaller3 .ensures)))
 
 slice-aggregate-listing-6 : tie.Need-slice-aggregate-listing-6
-slice-aggregate-listing-6 c = sym (length-take-le _ _ (omega (arith, c .before .before .before .before .before .before .least4 .ensures)))
+slice-aggregate-listing-6 c = sym (length-take-le _ _ (omega (arith, c .before .before .before .before .before .before .smaller4 .ensures)))
 
 listing-requires : tie.Need-listing-requires
 listing-requires c κs =
     let a = c .before .before .before .before .before .before .before .before .before .before .before .before .before .before .before .before .before .before .before .before .before .args in
     let o = shows (a .m) (a .left .now) (a .frames .now) (a .strengths .now) (a .xframes .now) (a .xstrengths .now) (a .edges .now) (a .bounds .now) in
     let p = c .before .before .before .before .before .before .before .before .before .before .before .before .before .before .before .before .before .before .before .before .before .pre .0 in
-    ((p .0, p .1 .few, same (a .frames .now) (a .strengths .now) (c .before .before .before .before .before .before .before .before .before .before .least .result) (p .1 .strengths), same (a .xframes .now) (a .xstrengths .now) (c .before .before .before .before .before .before .before .before .before .least2 .result) (p .1 .xstrengths)), le-trans (front-fits (a .given .now) o (p .1) (c .before .before .before .before .before .before .before .before .before .before .least .result) (c .before .before .before .before .before .before .before .before .before .least2 .result) (c .before .before .before .before .before .before .before .before .least3 .result) (c .before .before .before .before .before .before .before .least4 .result)) (c .before .before .before .before .before .before .before .before .before .before .before .before .before .before .before .before .before .before .before .before .before .pre .1))
+    ((p .0, p .1 .few, same (a .frames .now) (a .strengths .now) (c .before .before .before .before .before .before .before .before .before .before .smaller .result) (p .1 .strengths), same (a .xframes .now) (a .xstrengths .now) (c .before .before .before .before .before .before .before .before .before .smaller2 .result) (p .1 .xstrengths)), le-trans (front-fits (a .given .now) o (p .1) (c .before .before .before .before .before .before .before .before .before .before .smaller .result) (c .before .before .before .before .before .before .before .before .before .smaller2 .result) (c .before .before .before .before .before .before .before .before .smaller3 .result) (c .before .before .before .before .before .before .before .smaller4 .result)) (c .before .before .before .before .before .before .before .before .before .before .before .before .before .before .before .before .before .before .before .before .before .pre .1))
 
 same-length : tie.Need-same-length
 same-length c = search needs
@@ -65,7 +66,7 @@ returns : tie.Need-returns
 returns c =
     let a = c .before .before .before .before .before .before .before .before .before .before .before .before .before .before .before .before .before .before .before .before .before .before .before .before .args in
     let o = shows (a .m) (a .left .now) (a .frames .now) (a .strengths .now) (a .xframes .now) (a .xstrengths .now) (a .edges .now) (a .bounds .now) in
-    listed-as (front-shown (a .given .now) o (c .before .before .before .before .before .before .before .before .before .before .before .before .before .before .before .before .before .before .before .before .before .before .before .before .pre .0 .1) (c .before .before .before .before .before .before .before .before .before .before .before .before .before .before .if1 .taken) (c .before .before .before .before .before .before .before .before .before .before .before .before .before .least .ensures) (c .before .before .before .before .before .before .before .before .before .before .before .before .least2 .ensures) (c .before .before .before .before .before .before .before .before .before .before .before .least3 .ensures) (c .before .before .before .before .before .before .before .before .before .before .least4 .ensures)) (c .before .before .listing .ensures)
+    relisted (front-shown (a .given .now) o (c .before .before .before .before .before .before .before .before .before .before .before .before .before .before .before .before .before .before .before .before .before .before .before .before .pre .0 .1) (c .before .before .before .before .before .before .before .before .before .before .before .before .before .before .if1 .taken) (c .before .before .before .before .before .before .before .before .before .before .before .before .before .smaller .ensures) (c .before .before .before .before .before .before .before .before .before .before .before .before .smaller2 .ensures) (c .before .before .before .before .before .before .before .before .before .before .before .smaller3 .ensures) (c .before .before .before .before .before .before .before .before .before .before .smaller4 .ensures)) (c .before .before .listing .ensures)
 
 refused-requires : tie.Need-refused-requires
 refused-requires c κs = omega (arith, refused-fits (c .before .before .before .before .before .before .before .before .before .before .before .args .m .refusal), c .before .before .before .before .before .before .before .before .before .before .before .pre .1)
@@ -77,16 +78,16 @@ returns-2 : tie.Need-returns-2
 returns-2 c =
     let a = c .before .before .before .before .before .before .before .before .before .before .before .before .before .before .args in
     let o = shows (a .m) (a .left .now) (a .frames .now) (a .strengths .now) (a .xframes .now) (a .xstrengths .now) (a .edges .now) (a .bounds .now) in
-    listed-as (refused-shown (a .given .now) o (c .before .before .before .before .if1 .left)) (c .before .before .refused .ensures)
+    relisted (refused-shown (a .given .now) o (c .before .before .before .before .if1 .left)) (c .before .before .refused .ensures)
 
 pub show-spec : {M : Type 1} → statement M
 show-spec =
     tie.close
     (tie.spec
-    least-requires
-    least-requires-2
-    least-requires-3
-    least-requires-4
+    smaller-requires
+    smaller-requires-2
+    smaller-requires-3
+    smaller-requires-4
     slice-aggregate-listing
     slice-aggregate-listing-2
     slice-aggregate-listing-3

@@ -8,8 +8,9 @@ use lib.Ieee.{Float}
 use lib.Seq.{length-take-le}
 use borrow.Author.Needs.{needs}
 use Rattle.region.specs.declared.Settings.{Settings}
-use Rattle.kiddwyr.specs.Chain.{Take}
-use Rattle.report.proofs.Parts.{listed-as, parts-room, parts-text}
+use Rattle.chain.specs.Chain.{Take}
+use Rattle.lists.proofs.Fill.{relisted}
+use Rattle.report.proofs.Parts.{parts-room, parts-text}
 use Rattle.report.proofs.with_lists.Statement.{statement}
 use Rattle.report.proofs.with_lists.Tie as tie
 
@@ -105,7 +106,7 @@ returns c =
     let y = c .before .before .before .before .before .before .before .before .before .before .before .before .before .before .before .before .before .before .before .before .before .blank-track2 in
     let e = c .before .before .before .before .before .before .before .before .before .before .before .before .before .before .before .before .before .before .before .before .blank-list3 in
     let b = c .before .before .before .before .before .before .before .before .before .before .before .before .before .before .before .before .before .before .before .blank-list4 in
-    listed-as (parts-text t (p .1) (f .result) (g .result) (x .result) (y .result) (e .result) (b .result) (f .ensures) (g .ensures) (x .ensures) (y .ensures) (e .ensures) (b .ensures) (p .0)) (c .before .before .before .before .before .before .before .before .before .before .list-marks .ensures)
+    relisted (parts-text t (p .1) (f .result) (g .result) (x .result) (y .result) (e .result) (b .result) (f .ensures) (g .ensures) (x .ensures) (y .ensures) (e .ensures) (b .ensures) (p .0)) (c .before .before .before .before .before .before .before .before .before .before .list-marks .ensures)
 
 pub with-lists-spec : {M : Type 1} → statement M
 with-lists-spec =

@@ -1,14 +1,12 @@
 -- `select::count` meets its contract. The loop's invariant: n and the count among the keys from i on make the whole count, and n is at most i. Assumes nothing.
-use mathlib.Core.Path.{_≡_, sym, ap, _∙_}
-use mathlib.Core.Bool.{Bool, true, false}
-use Prim.Native.Nat.{ℕ, _+_, _-_, _≤_}
+use mathlib.Core.Path.{_≡_, _∙_}
+use Prim.Native.Nat.{_+_, _-_, _≤_}
 use native.Mathlib.Omega.{arith}
 use borrow.Author.Needs.{needs}
 use lib.Dec.{leb}
 use lib.ListN.{length, drop, getD}
-use Rattle.lists.specs.Results.{moreIf}
 use Rattle.select.specs.Order.{atMost}
-use Rattle.select.proofs.Walks.{count-step, count-end}
+use Rattle.lists.proofs.Counting.{at-most-one, count-step, count-end}
 use Rattle.select.proofs.count.Statement.{statement}
 use Rattle.select.proofs.count.Tie as tie
 
@@ -17,10 +15,6 @@ Inv-loop keys x n₀ i₀ n i = (i ≤ length keys) × (n ≤ i) × (n + atMost 
 
 abbrev μ-loop : tie.MeasureT-loop
 μ-loop keys x n₀ i₀ n i = length keys - i
-
-bit : (b : Bool) (r : ℕ) → r ≡ moreIf b 0 → r ≤ 1
-bit true r e = omega arith
-bit false r e = omega arith
 
 loop-holds : tie.Need-loop-holds Inv-loop μ-loop
 loop-holds c = (omega arith, omega arith, omega arith)
@@ -38,7 +32,7 @@ one-requires c κs = search needs
 few : (c : tie.After-one Inv-loop μ-loop) → c .one .result ≤ 1
 few c =
     let s = c .before .before .before .before .before .args in
-    bit (leb (getD (s .keys .now) (c .before .before .before .loop .i) 0) (s .x)) (c .one .result) (c .one .ensures)
+    at-most-one (leb (getD (s .keys .now) (c .before .before .before .loop .i) 0) (s .x)) (c .one .ensures)
 
 add-n : tie.Need-add-n Inv-loop μ-loop
 add-n c = omega (arith, few c)
@@ -55,14 +49,14 @@ loop-again c =
     let v = c .before .before .before .loop in (
       omega arith,
       omega (arith, few c),
-      ap (λ (m : ℕ). v .n + m + atMost (s .x) (drop (v .i + 1) (s .keys .now))) (c .one .ensures) ∙ sym (count-step (s .keys .now) (v .i) (c .before .before .loop-test .taken) (s .x) (v .n)) ∙ v .inv .2,
+      count-step (λ y. leb y (s .x)) (s .keys .now) (v .i) (v .n) 0 (c .before .before .loop-test .taken) (c .one .ensures) ∙ v .inv .2,
     )
 
 returns : tie.Need-returns Inv-loop μ-loop
 returns c =
     let s = c .before .before .before .args in
     let v = c .before .loop in
-    sym (count-end (s .keys .now) (v .i) (c .loop-test .left) (s .x) (v .n)) ∙ v .inv .2
+    count-end (λ y. leb y (s .x)) (s .keys .now) (v .i) (v .n) (c .loop-test .left) ∙ v .inv .2
 
 pub count-spec : {M : Type 1} → statement M
 count-spec = tie.close (tie.spec Inv-loop μ-loop loop-holds mul-one shared-slice-read-one one-requires add-n add-i loop-less loop-again returns)

@@ -6,8 +6,8 @@ use Rattle.boundaries.proofs.Turns.{turn-fits, turn-added, pauses-keyed
 use Rattle.boundaries.proofs.edges.add_pauses.Statement.{statement}
 use Rattle.boundaries.proofs.edges.add_pauses.Tie as tie
 
-blank-requires : tie.Need-blank-requires
-blank-requires c κs = search needs
+blank-keys-requires : tie.Need-blank-keys-requires
+blank-keys-requires c κs = search needs
 
 slice-aggregate-pause-keys : tie.Need-slice-aggregate-pause-keys
 slice-aggregate-pause-keys c = search needs
@@ -15,8 +15,8 @@ slice-aggregate-pause-keys c = search needs
 pause-keys-requires : tie.Need-pause-keys-requires
 pause-keys-requires c κs = search needs
 
-blank-requires-2 : tie.Need-blank-requires-2
-blank-requires-2 c κs = search needs
+blank-keys-requires-2 : tie.Need-blank-keys-requires-2
+blank-keys-requires-2 c κs = search needs
 
 array-borrow-prefix-keys : tie.Need-array-borrow-prefix-keys
 array-borrow-prefix-keys c = listed-fits (c .before .before .pause-keys .ensures)
@@ -31,22 +31,22 @@ add-sorted-requires : tie.Need-add-sorted-requires
 add-sorted-requires c κs =
     let args = c .before .before .before .before .before .before .before .before .before .args in
     let pre = c .before .before .before .before .before .before .before .before .before .pre in
-    (omega (arith, listed-count (c .before .before .before .before .before .pause-keys .ensures), listed-fits (c .before .before .before .before .before .pause-keys .ensures), c .before .before .before .before .before .pause-keys .kept, c .before .before .before .before .before .before .before .blank .ensures, c .before .before .before .blank2 .ensures), turn-fits (pauses-keyed (args .db .now) (args .threshold) (args .start) (args .end) (omega (arith, pre .1, pre .2))) (c .before .before .before .before .before .pause-keys .ensures))
+    (omega (arith, listed-count (c .before .before .before .before .before .pause-keys .ensures), listed-fits (c .before .before .before .before .before .pause-keys .ensures), c .before .before .before .before .before .pause-keys .kept, c .before .before .before .before .before .before .before .blank-keys .ensures, c .before .before .before .blank-keys2 .ensures), turn-fits (pauses-keyed (args .db .now) (args .b .threshold) (args .b .start) (args .b .end) (omega (arith, pre .1, pre .2))) (c .before .before .before .before .before .pause-keys .ensures))
 
 returns : tie.Need-returns
 returns c =
     let args = c .before .before .before .before .before .before .before .before .before .before .before .before .args in
     let pre = c .before .before .before .before .before .before .before .before .before .before .before .before .pre in
-    turn-added (pauses-keyed (args .db .now) (args .threshold) (args .start) (args .end) (omega (arith, pre .1, pre .2))) (c .before .before .before .before .before .before .before .before .pause-keys .ensures) (c .before .before .add-sorted .ensures)
+    turn-added (pauses-keyed (args .db .now) (args .b .threshold) (args .b .start) (args .b .end) (omega (arith, pre .1, pre .2))) (c .before .before .before .before .before .before .before .before .pause-keys .ensures) (c .before .before .add-sorted .ensures)
 
 pub add-pauses-spec : {M : Type 1} → statement M
 add-pauses-spec =
     tie.close
     (tie.spec
-    blank-requires
+    blank-keys-requires
     slice-aggregate-pause-keys
     pause-keys-requires
-    blank-requires-2
+    blank-keys-requires-2
     array-borrow-prefix-keys
     slice-aggregate-add-sorted
     slice-aggregate-add-sorted-2

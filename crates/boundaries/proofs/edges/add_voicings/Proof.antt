@@ -2,13 +2,13 @@
 use native.Mathlib.Omega.{arith}
 use borrow.Author.Needs.{needs}
 use Rattle.lists.proofs.Fill.{listed-fits, listed-count}
-use Rattle.boundaries.specs.Taken.{flagged}
+use Rattle.region.specs.Speech.{marked}
 use Rattle.boundaries.proofs.Turns.{turn-fits, turn-added, voicings-keyed}
 use Rattle.boundaries.proofs.edges.add_voicings.Statement.{statement}
 use Rattle.boundaries.proofs.edges.add_voicings.Tie as tie
 
-blank-requires : tie.Need-blank-requires
-blank-requires c κs = search needs
+blank-keys-requires : tie.Need-blank-keys-requires
+blank-keys-requires c κs = search needs
 
 slice-aggregate-voicing-keys : tie.Need-slice-aggregate-voicing-keys
 slice-aggregate-voicing-keys c = search needs
@@ -16,8 +16,8 @@ slice-aggregate-voicing-keys c = search needs
 voicing-keys-requires : tie.Need-voicing-keys-requires
 voicing-keys-requires c κs = search needs
 
-blank-requires-2 : tie.Need-blank-requires-2
-blank-requires-2 c κs = search needs
+blank-keys-requires-2 : tie.Need-blank-keys-requires-2
+blank-keys-requires-2 c κs = search needs
 
 array-borrow-prefix-keys : tie.Need-array-borrow-prefix-keys
 array-borrow-prefix-keys c = listed-fits (c .before .before .voicing-keys .ensures)
@@ -32,22 +32,22 @@ add-sorted-requires : tie.Need-add-sorted-requires
 add-sorted-requires c κs =
     let args = c .before .before .before .before .before .before .before .before .before .before .args in
     let pre = c .before .before .before .before .before .before .before .before .before .before .pre in
-    (omega (arith, listed-count (c .before .before .before .before .before .voicing-keys .ensures), listed-fits (c .before .before .before .before .before .voicing-keys .ensures), c .before .before .before .before .before .voicing-keys .kept, c .before .before .before .before .before .before .before .blank .ensures, c .before .before .before .blank2 .ensures), turn-fits (voicings-keyed (args .pitch .now) (args .voicing .now) (flagged (args .skip .now)) (args .start) (args .end) (omega (arith, pre .1, pre .2))) (c .before .before .before .before .before .voicing-keys .ensures))
+    (omega (arith, listed-count (c .before .before .before .before .before .voicing-keys .ensures), listed-fits (c .before .before .before .before .before .voicing-keys .ensures), c .before .before .before .before .before .voicing-keys .kept, c .before .before .before .before .before .before .before .blank-keys .ensures, c .before .before .before .blank-keys2 .ensures), turn-fits (voicings-keyed (args .pitch .now) (args .voicing .now) (marked (args .skip .now)) (args .b .start) (args .b .end) (omega (arith, pre .1, pre .2))) (c .before .before .before .before .before .voicing-keys .ensures))
 
 returns : tie.Need-returns
 returns c =
     let args = c .before .before .before .before .before .before .before .before .before .before .before .before .before .args in
     let pre = c .before .before .before .before .before .before .before .before .before .before .before .before .before .pre in
-    turn-added (voicings-keyed (args .pitch .now) (args .voicing .now) (flagged (args .skip .now)) (args .start) (args .end) (omega (arith, pre .1, pre .2))) (c .before .before .before .before .before .before .before .before .voicing-keys .ensures) (c .before .before .add-sorted .ensures)
+    turn-added (voicings-keyed (args .pitch .now) (args .voicing .now) (marked (args .skip .now)) (args .b .start) (args .b .end) (omega (arith, pre .1, pre .2))) (c .before .before .before .before .before .before .before .before .voicing-keys .ensures) (c .before .before .add-sorted .ensures)
 
 pub add-voicings-spec : {M : Type 1} → statement M
 add-voicings-spec =
     tie.close
     (tie.spec
-    blank-requires
+    blank-keys-requires
     slice-aggregate-voicing-keys
     voicing-keys-requires
-    blank-requires-2
+    blank-keys-requires-2
     array-borrow-prefix-keys
     slice-aggregate-add-sorted
     slice-aggregate-add-sorted-2

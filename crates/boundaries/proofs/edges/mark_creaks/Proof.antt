@@ -6,13 +6,14 @@ use lib.ListN.{length, drop}
 use Rattle.lists.specs.Results.{filter}
 use Rattle.lists.proofs.Entries.{each-at}
 use Rattle.region.specs.Speech.{speechAt}
-use Rattle.boundaries.specs.Edges.{filled, inCreak, gapsOf}
+use Rattle.runs.specs.Runs.{spans}
+use Rattle.boundaries.specs.Edges.{filled, inCreak}
 use Rattle.boundaries.proofs.Spreading.{Spreading, spreading-start, spreading-on, spreading-end, creaks-on, creaks-over}
 use Rattle.boundaries.proofs.edges.mark_creaks.Statement.{statement}
 use Rattle.boundaries.proofs.edges.mark_creaks.Tie as tie
 
 abbrev Inv-loop : tie.InvT-loop
-Inv-loop db threshold before after marks₀ i₀ marks i = (i ≤ length before) × Spreading (inCreak (filter (filled (speechAt threshold db)) (gapsOf before after))) (inCreak (filter (filled (speechAt threshold db)) (gapsOf (drop i before) (drop i after)))) marks₀ marks
+Inv-loop db threshold before after marks₀ i₀ marks i = (i ≤ length before) × Spreading (inCreak (filter (filled (speechAt threshold db)) (spans before after))) (inCreak (filter (filled (speechAt threshold db)) (spans (drop i before) (drop i after)))) marks₀ marks
 
 abbrev μ-loop : tie.MeasureT-loop
 μ-loop db threshold before after marks₀ i₀ marks i = length before - i
@@ -49,7 +50,7 @@ loop-again c =
     let loop = c .before .before .before .before .before .loop in
     let test = c .before .before .before .before .loop-test in (
       omega (arith, test .taken),
-      spreading-on (inCreak (filter (filled (speechAt (args .threshold) (args .db .now))) (gapsOf (drop (loop .i + 1) (args .before .now)) (drop (loop .i + 1) (args .after .now)))))
+      spreading-on (inCreak (filter (filled (speechAt (args .threshold) (args .db .now))) (spans (drop (loop .i + 1) (args .before .now)) (drop (loop .i + 1) (args .after .now)))))
           (creaks-on (speechAt (args .threshold) (args .db .now)) (args .before .now) (args .after .now) (loop .i) (test .taken) (omega (arith, c .before .before .before .before .before .before .before .before .before .pre .0, test .taken)))
           (c .mark-creak .ensures) (loop .inv .1),
     )

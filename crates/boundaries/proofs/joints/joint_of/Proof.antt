@@ -42,7 +42,7 @@ shallow-valley-requires : tie.Need-shallow-valley-requires
 shallow-valley-requires c κs = search needs
 
 add-t17 : tie.Need-add-t17
-add-t17 c = omega (arith, found-within _ _ _ _ _ _ (c .before .before .before .before .before .before .before .before .before .before .before .before .before .before .pre .1 .2) (sym (c .before .before .before .before .before .before .before .before .before .before .run-of .ensures) ∙ c .before .before .before .before .before .before .before .before .x .given .1))
+add-t17 c = omega (arith, found-within _ _ _ _ _ _ (c .before .before .before .before .before .before .before .before .before .before .before .before .before .before .pre .1 .1) (sym (c .before .before .before .before .before .before .before .before .before .before .run-of .ensures) ∙ c .before .before .before .before .before .before .before .before .x .given .1))
 
 returns-3 : tie.Need-returns-3
 returns-3 c = joint-break _ _ _ _ _ _ _ _ _ _ _ (sym (c .before .before .before .before .before .before .before .before .before .before .run-of .ensures) ∙ c .before .before .before .before .before .before .before .before .x .given .1) (sym (c .before .before .before .before .before .before .run-of2 .ensures) ∙ c .before .before .before .before .y .given .1) (rw (ne-eqb _ _ (c .before .before .if1 .taken), sym (c .before .shallow-valley .ensures) ∙ c .if2 .taken))

@@ -3,7 +3,8 @@ use native.Mathlib.Omega.{arith}
 use borrow.Author.Needs.{needs}
 use lib.ListN.{length}
 use Rattle.lists.proofs.Fill.{listed-fits, listed-count}
-use Rattle.boundaries.specs.Taken.{flagged, framesIn}
+use Rattle.region.specs.Speech.{marked}
+use Rattle.boundaries.specs.Taken.{takenFrames}
 use Rattle.boundaries.proofs.Turns.{turn-fits, turn-added, minima-keyed}
 use Rattle.boundaries.proofs.Whole.{frames-rise, mins-below, minima-listed, minima-added}
 use Rattle.boundaries.proofs.minima.add_minima.Statement.{statement}
@@ -56,12 +57,12 @@ slice-aggregate-add-sorted-2 c = search needs
 add-sorted-requires : tie.Need-add-sorted-requires
 add-sorted-requires c κs =
     let args = c .before .before .before .before .before .before .before .before .before .before .before .before .before .before .before .before .before .before .before .args in
-    (omega (arith, listed-count (c .before .before .before .before .minima-keys .ensures), listed-fits (c .before .before .before .before .minima-keys .ensures)), turn-fits (minima-keyed (args .level .now) (flagged (args .skip .now)) (framesIn (args .taken .now) (length (args .level .now))) (c .before .before .before .before .before .before .before .before .before .before .before .before .before .before .before .before .before .before .before .pre)) (minima-listed (args .level .now) (flagged (args .skip .now)) (args .taken .now) (c .before .before .before .before .before .before .before .before .before .before .before .before .before .before .before .put-taken .ensures) (c .before .before .before .before .before .before .before .before .before .before .before .mark-long-spans .ensures) (c .before .before .before .before .before .before .before .before .before .local-extrema .ensures) (c .before .before .before .before .minima-keys .ensures)))
+    (omega (arith, listed-count (c .before .before .before .before .minima-keys .ensures), listed-fits (c .before .before .before .before .minima-keys .ensures)), turn-fits (minima-keyed (args .level .now) (marked (args .skip .now)) (takenFrames (args .taken .now) (length (args .level .now))) (c .before .before .before .before .before .before .before .before .before .before .before .before .before .before .before .before .before .before .before .pre)) (minima-listed (args .level .now) (marked (args .skip .now)) (args .taken .now) (c .before .before .before .before .before .before .before .before .before .before .before .before .before .before .before .put-taken .ensures) (c .before .before .before .before .before .before .before .before .before .before .before .mark-long-spans .ensures) (c .before .before .before .before .before .before .before .before .before .local-extrema .ensures) (c .before .before .before .before .minima-keys .ensures)))
 
 returns : tie.Need-returns
 returns c =
     let args = c .before .before .before .before .before .before .before .before .before .before .before .before .before .before .before .before .before .before .before .before .before .before .args in
-    minima-added (args .level .now) (flagged (args .skip .now)) (turn-added (minima-keyed (args .level .now) (flagged (args .skip .now)) (framesIn (args .taken .now) (length (args .level .now))) (c .before .before .before .before .before .before .before .before .before .before .before .before .before .before .before .before .before .before .before .before .before .before .pre)) (minima-listed (args .level .now) (flagged (args .skip .now)) (args .taken .now) (c .before .before .before .before .before .before .before .before .before .before .before .before .before .before .before .before .before .before .put-taken .ensures) (c .before .before .before .before .before .before .before .before .before .before .before .before .before .before .mark-long-spans .ensures) (c .before .before .before .before .before .before .before .before .before .before .before .before .local-extrema .ensures) (c .before .before .before .before .before .before .before .minima-keys .ensures)) (c .before .before .add-sorted .ensures))
+    minima-added (args .level .now) (marked (args .skip .now)) (turn-added (minima-keyed (args .level .now) (marked (args .skip .now)) (takenFrames (args .taken .now) (length (args .level .now))) (c .before .before .before .before .before .before .before .before .before .before .before .before .before .before .before .before .before .before .before .before .before .before .pre)) (minima-listed (args .level .now) (marked (args .skip .now)) (args .taken .now) (c .before .before .before .before .before .before .before .before .before .before .before .before .before .before .before .before .before .before .put-taken .ensures) (c .before .before .before .before .before .before .before .before .before .before .before .before .before .before .mark-long-spans .ensures) (c .before .before .before .before .before .before .before .before .before .before .before .before .local-extrema .ensures) (c .before .before .before .before .before .before .before .minima-keys .ensures)) (c .before .before .add-sorted .ensures))
 
 pub add-minima-spec : {M : Type 1} → statement M
 add-minima-spec =

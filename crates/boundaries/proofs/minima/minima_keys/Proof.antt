@@ -8,13 +8,13 @@ use mathlib.Core.Logic.{⊎-elim}
 use lib.ListN.{length, drop}
 use Rattle.lists.proofs.Fill.{Filling, fill-fits, fill-push, fill-length}
 use Rattle.lists.proofs.Entries.{each-at}
-use Rattle.boundaries.specs.Taken.{flagged}
+use Rattle.region.specs.Speech.{marked}
 use Rattle.boundaries.proofs.Turns.{keyed, keyed-start, keyed-yes, keyed-no, keyed-end}
 use Rattle.boundaries.proofs.minima.minima_keys.Statement.{statement}
 use Rattle.boundaries.proofs.minima.minima_keys.Tie as tie
 
 abbrev Inv-loop : tie.InvT-loop
-Inv-loop level skip spans mins out₀ n₀ k₀ out n k = (k ≤ length mins) × Filling (keyed level (λ i. flagged spans i && not (flagged skip i)) mins mins) (keyed level (λ i. flagged spans i && not (flagged skip i)) mins (drop k mins)) out₀ out n
+Inv-loop level skip spans mins out₀ n₀ k₀ out n k = (k ≤ length mins) × Filling (keyed level (λ i. marked spans i && not (marked skip i)) mins mins) (keyed level (λ i. marked spans i && not (marked skip i)) mins (drop k mins)) out₀ out n
 
 abbrev μ-loop : tie.MeasureT-loop
 μ-loop level skip spans mins out₀ n₀ k₀ out n k = length mins - k
@@ -22,7 +22,7 @@ abbrev μ-loop : tie.MeasureT-loop
 loop-holds : tie.Need-loop-holds Inv-loop μ-loop
 loop-holds c =
     let args = c .before .before .before .args in
-    (omega arith, keyed-start (args .level .now) (λ i. flagged (args .spans .now) i && not (flagged (args .skip .now) i)) (args .mins .now) _ (omega arith))
+    (omega arith, keyed-start (args .level .now) (λ i. marked (args .spans .now) i && not (marked (args .skip .now) i)) (args .mins .now) _ (omega arith))
 
 mul-m : tie.Need-mul-m Inv-loop μ-loop
 mul-m c = search needs
@@ -59,17 +59,17 @@ key-of-requires c κs = search needs
 mul-out : tie.Need-mul-out Inv-loop μ-loop
 mul-out c =
     let args = c .before .before .before .before .before .before .before .before .before .before .args in
-    omega (arith, fill-fits (keyed-yes (args .level .now) (λ i. flagged (args .spans .now) i && not (flagged (args .skip .now) i)) (args .mins .now) (c .before .before .before .before .before .loop-test .taken) (sym (c .before .before .before .is-wanted .ensures) ∙ c .before .before .if1 .taken) (c .before .before .before .before .before .before .loop .inv .1)))
+    omega (arith, fill-fits (keyed-yes (args .level .now) (λ i. marked (args .spans .now) i && not (marked (args .skip .now) i)) (args .mins .now) (c .before .before .before .before .before .loop-test .taken) (sym (c .before .before .before .is-wanted .ensures) ∙ c .before .before .if1 .taken) (c .before .before .before .before .before .before .loop .inv .1)))
 
 slice-write-out : tie.Need-slice-write-out Inv-loop μ-loop
 slice-write-out c =
     let args = c .before .before .before .before .before .before .before .before .before .before .args in
-    fill-fits (keyed-yes (args .level .now) (λ i. flagged (args .spans .now) i && not (flagged (args .skip .now) i)) (args .mins .now) (c .before .before .before .before .before .loop-test .taken) (sym (c .before .before .before .is-wanted .ensures) ∙ c .before .before .if1 .taken) (c .before .before .before .before .before .before .loop .inv .1)) .0
+    fill-fits (keyed-yes (args .level .now) (λ i. marked (args .spans .now) i && not (marked (args .skip .now) i)) (args .mins .now) (c .before .before .before .before .before .loop-test .taken) (sym (c .before .before .before .is-wanted .ensures) ∙ c .before .before .if1 .taken) (c .before .before .before .before .before .before .loop .inv .1)) .0
 
 add-n : tie.Need-add-n Inv-loop μ-loop
 add-n c =
     let args = c .before .before .before .before .before .before .before .before .before .before .args in
-    omega (arith, fill-fits (keyed-yes (args .level .now) (λ i. flagged (args .spans .now) i && not (flagged (args .skip .now) i)) (args .mins .now) (c .before .before .before .before .before .loop-test .taken) (sym (c .before .before .before .is-wanted .ensures) ∙ c .before .before .if1 .taken) (c .before .before .before .before .before .before .loop .inv .1)))
+    omega (arith, fill-fits (keyed-yes (args .level .now) (λ i. marked (args .spans .now) i && not (marked (args .skip .now) i)) (args .mins .now) (c .before .before .before .before .before .loop-test .taken) (sym (c .before .before .before .is-wanted .ensures) ∙ c .before .before .if1 .taken) (c .before .before .before .before .before .before .loop .inv .1)))
 
 add-k : tie.Need-add-k Inv-loop μ-loop
 add-k c = search needs
@@ -84,8 +84,8 @@ loop-again c =
     let test = c .before .before .before .loop-test in (
       omega (arith, test .taken),
       ⊎-elim
-          (λ w. rw (w .3, w .4, w .2 .ensures, w .1 .ensures) (fill-push (keyed-yes (args .level .now) (λ i. flagged (args .spans .now) i && not (flagged (args .skip .now) i)) (args .mins .now) (test .taken) (sym (c .before .is-wanted .ensures) ∙ w .0 .taken) (loop .inv .1))))
-          (λ w. rw (w .1, w .2) (keyed-no (args .level .now) (λ i. flagged (args .spans .now) i && not (flagged (args .skip .now) i)) (args .mins .now) (test .taken) (sym (c .before .is-wanted .ensures) ∙ w .0 .left) (loop .inv .1)))
+          (λ w. rw (w .3, w .4, w .2 .ensures, w .1 .ensures) (fill-push (keyed-yes (args .level .now) (λ i. marked (args .spans .now) i && not (marked (args .skip .now) i)) (args .mins .now) (test .taken) (sym (c .before .is-wanted .ensures) ∙ w .0 .taken) (loop .inv .1))))
+          (λ w. rw (w .1, w .2) (keyed-no (args .level .now) (λ i. marked (args .spans .now) i && not (marked (args .skip .now) i)) (args .mins .now) (test .taken) (sym (c .before .is-wanted .ensures) ∙ w .0 .left) (loop .inv .1)))
           (c .if1 .came),
     )
 
@@ -95,7 +95,7 @@ same-length c = fill-length (c .before .loop .inv .1)
 returns : tie.Need-returns Inv-loop μ-loop
 returns c =
     let args = c .before .before .before .before .before .args in
-    keyed-end (args .level .now) (λ i. flagged (args .spans .now) i && not (flagged (args .skip .now) i)) (args .mins .now) (c .loop-test .left) (c .before .loop .inv .1)
+    keyed-end (args .level .now) (λ i. marked (args .spans .now) i && not (marked (args .skip .now) i)) (args .mins .now) (c .loop-test .left) (c .before .loop .inv .1)
 
 pub minima-keys-spec : {M : Type 1} → statement M
 minima-keys-spec =

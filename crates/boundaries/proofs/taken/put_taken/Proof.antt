@@ -7,18 +7,19 @@ use mathlib.Core.Logic.{⊎-elim}
 use borrow.Author.Tests.{eq-eqb, ne-eqb}
 use Rattle.lists.specs.Results.{keep}
 use Rattle.lists.proofs.Fill.{Filling, fill-start, fill-fits, fill-push, fill-length, fill-end, keep-yes, keep-no, keep-over, keep-fits}
-use Rattle.boundaries.specs.Taken.{flagged, framesIn}
+use Rattle.region.specs.Speech.{marked}
+use Rattle.boundaries.specs.Taken.{takenFrames}
 use Rattle.boundaries.proofs.taken.put_taken.Statement.{statement}
 use Rattle.boundaries.proofs.taken.put_taken.Tie as tie
 
 abbrev Inv-loop : tie.InvT-loop
-Inv-loop taken n out₀ k₀ x₀ out k x = (x ≤ n + 1) × Filling (framesIn taken n) (keep (λ x. flagged taken (x + 2)) x (n + 1 - x)) out₀ out k
+Inv-loop taken n out₀ k₀ x₀ out k x = (x ≤ n + 1) × Filling (takenFrames taken n) (keep (λ x. marked taken (x + 2)) x (n + 1 - x)) out₀ out k
 
 abbrev μ-loop : tie.MeasureT-loop
 μ-loop taken n out₀ k₀ x₀ out k x = n + 1 - x
 
 loop-holds : tie.Need-loop-holds Inv-loop μ-loop
-loop-holds c = (zero-le, rw sub-zero (fill-start _ _ (omega (arith, c .pre .1, keep-fits (λ x. flagged (c .args .taken .now) (x + 2)) 0 (c .args .n + 1)))))
+loop-holds c = (zero-le, rw sub-zero (fill-start _ _ (omega (arith, c .pre .1, keep-fits (λ x. marked (c .args .taken .now) (x + 2)) 0 (c .args .n + 1)))))
 
 add-loop : tie.Need-add-loop Inv-loop μ-loop
 add-loop c = search needs
@@ -33,13 +34,13 @@ cast-out : tie.Need-cast-out Inv-loop μ-loop
 cast-out c = search needs
 
 mul-out : tie.Need-mul-out Inv-loop μ-loop
-mul-out c = omega (arith, fill-fits (keep-yes (λ x. flagged (c .before .before .before .before .args .taken .now) (x + 2)) _ _ (c .before .before .loop-test .taken) (eq-eqb _ _ (c .if1 .taken)) (c .before .before .before .loop .inv .1)))
+mul-out c = omega (arith, fill-fits (keep-yes (λ x. marked (c .before .before .before .before .args .taken .now) (x + 2)) _ _ (c .before .before .loop-test .taken) (eq-eqb _ _ (c .if1 .taken)) (c .before .before .before .loop .inv .1)))
 
 slice-write-out : tie.Need-slice-write-out Inv-loop μ-loop
-slice-write-out c = fill-fits (keep-yes (λ x. flagged (c .before .before .before .before .args .taken .now) (x + 2)) _ _ (c .before .before .loop-test .taken) (eq-eqb _ _ (c .if1 .taken)) (c .before .before .before .loop .inv .1)) .0
+slice-write-out c = fill-fits (keep-yes (λ x. marked (c .before .before .before .before .args .taken .now) (x + 2)) _ _ (c .before .before .loop-test .taken) (eq-eqb _ _ (c .if1 .taken)) (c .before .before .before .loop .inv .1)) .0
 
 add-k : tie.Need-add-k Inv-loop μ-loop
-add-k c = omega (arith, fill-fits (keep-yes (λ x. flagged (c .before .before .before .before .args .taken .now) (x + 2)) _ _ (c .before .before .loop-test .taken) (eq-eqb _ _ (c .if1 .taken)) (c .before .before .before .loop .inv .1)))
+add-k c = omega (arith, fill-fits (keep-yes (λ x. marked (c .before .before .before .before .args .taken .now) (x + 2)) _ _ (c .before .before .loop-test .taken) (eq-eqb _ _ (c .if1 .taken)) (c .before .before .before .loop .inv .1)))
 
 add-x : tie.Need-add-x Inv-loop μ-loop
 add-x c = search needs
@@ -54,8 +55,8 @@ loop-again c =
     let test = c .before .before .loop-test in (
       omega (arith, test .taken),
       ⊎-elim
-          (λ w. rw (w .1, w .2) (fill-push (keep-yes (λ x. flagged (args .taken .now) (x + 2)) _ _ (test .taken) (eq-eqb _ _ (w .0 .taken)) (loop .inv .1))))
-          (λ w. rw (w .1, w .2) (keep-no (λ x. flagged (args .taken .now) (x + 2)) _ _ (test .taken) (ne-eqb _ _ (w .0 .left)) (loop .inv .1)))
+          (λ w. rw (w .1, w .2) (fill-push (keep-yes (λ x. marked (args .taken .now) (x + 2)) _ _ (test .taken) (eq-eqb _ _ (w .0 .taken)) (loop .inv .1))))
+          (λ w. rw (w .1, w .2) (keep-no (λ x. marked (args .taken .now) (x + 2)) _ _ (test .taken) (ne-eqb _ _ (w .0 .left)) (loop .inv .1)))
           (c .if1 .came),
     )
 

@@ -8,236 +8,112 @@ use Rattle.nuclei.proofs.Merge.{falls-prev, falls-left, left-within, merge-none
 use Rattle.extra.proofs.Anchoring.{survivor-picks}
 use borrow.Fn.Kinds.{In}
 use borrow.Fn.PlainCycle.{Measures, is, falls, and}
-use Rattle.extra.proofs.merging.push_anchor.Reads as push-anchor
-use Rattle.extra.proofs.merging.push_anchor.Kinds as push-anchor-kinds
-use Rattle.extra.proofs.merging.+push_anchor.Lts-push_anchor as push-anchor-lts
+use Rattle.extra.proofs.merging.push_anchor.Reads as reads
+use Rattle.extra.proofs.merging.push_anchor.Kinds as kinds
+use Rattle.extra.proofs.merging.+push_anchor.Lts-push_anchor as lts
 use Rattle.extra.proofs.merging.one_syllable.Reads as one-syllable-reads
 use Rattle.extra.proofs.merging.survivor.Reads as survivor-reads
 use Rattle.extra.proofs.merging.+push_anchor.{statement}
 use Rattle.extra.proofs.merging.+push_anchor.Tie.{close}
 
-abbrev μ-push-anchor : Measures 3 push-anchor-kinds.ps ℕ
-μ-push-anchor κs a = a .1 .1 .1 .1 .0
+-- the count of the kept frames
+abbrev count : Measures 3 kinds.ps ℕ
+count κs a = a .1 .1 .1 .1 .0
 
-abbrev push-anchor-at : ℕ → In 3 push-anchor-kinds.ps
-push-anchor-at t =
-    and 3 push-anchor-kinds.ps (is 3 push-anchor-kinds.ps μ-push-anchor t) push-anchor.Pre
+module _ (t : ℕ) where
+  -- the frames are t before the call, and fewer before the call inside it
+  abbrev asked : In 3 kinds.ps
+  asked = and 3 kinds.ps (is 3 kinds.ps count t) reads.Pre
 
-abbrev push-anchor-below : ℕ → In 3 push-anchor-kinds.ps
-push-anchor-below t =
-    and 3 push-anchor-kinds.ps (falls 3 push-anchor-kinds.ps _<_ μ-push-anchor t) push-anchor.Pre
+  abbrev claims : lts.Claims
+  claims = (one-syllable-reads.Asked, one-syllable-reads.Learnt, survivor-reads.Asked, survivor-reads.Learnt, and 3 kinds.ps (falls 3 kinds.ps _<_ count t) reads.Pre, reads.Post)
 
-push-anchor-slice-write-kept : (t : ℕ) → push-anchor-lts.Need-slice-write-kept (
-  one-syllable-reads.Asked,
-  one-syllable-reads.Learnt,
-  survivor-reads.Asked,
-  survivor-reads.Learnt,
-  push-anchor-below t,
-  push-anchor.Post,
-) (push-anchor-at t) push-anchor.Post
-push-anchor-slice-write-kept t c = omega arith
+  slice-write-kept : lts.Need-slice-write-kept claims asked reads.Post
+  slice-write-kept c = omega arith
 
-push-anchor-same-length : (t : ℕ) → push-anchor-lts.Need-same-length (
-  one-syllable-reads.Asked,
-  one-syllable-reads.Learnt,
-  survivor-reads.Asked,
-  survivor-reads.Learnt,
-  push-anchor-below t,
-  push-anchor.Post,
-) (push-anchor-at t) push-anchor.Post
-push-anchor-same-length t c = search needs
+  same-length : lts.Need-same-length claims asked reads.Post
+  same-length c = search needs
 
-push-anchor-returns : (t : ℕ) → push-anchor-lts.Need-returns (
-  one-syllable-reads.Asked,
-  one-syllable-reads.Learnt,
-  survivor-reads.Asked,
-  survivor-reads.Learnt,
-  push-anchor-below t,
-  push-anchor.Post,
-) (push-anchor-at t) push-anchor.Post
-push-anchor-returns t c = merge-none _ _ _ _ _ (c .if1 .taken) (omega arith)
+  returns : lts.Need-returns claims asked reads.Post
+  returns c = merge-none _ _ _ _ _ (c .if1 .taken) (omega arith)
 
-push-anchor-sub-prev : (t : ℕ) → push-anchor-lts.Need-sub-prev (
-  one-syllable-reads.Asked,
-  one-syllable-reads.Learnt,
-  survivor-reads.Asked,
-  survivor-reads.Learnt,
-  push-anchor-below t,
-  push-anchor.Post,
-) (push-anchor-at t) push-anchor.Post
-push-anchor-sub-prev t c = pos-of-ne-zero (c .if1 .left)
+  sub-prev : lts.Need-sub-prev claims asked reads.Post
+  sub-prev c = pos-of-ne-zero (c .if1 .left)
 
-push-anchor-mul-prev : (t : ℕ) → push-anchor-lts.Need-mul-prev (
-  one-syllable-reads.Asked,
-  one-syllable-reads.Learnt,
-  survivor-reads.Asked,
-  survivor-reads.Learnt,
-  push-anchor-below t,
-  push-anchor.Post,
-) (push-anchor-at t) push-anchor.Post
-push-anchor-mul-prev t c = omega (arith, c .if1 .left)
+  mul-prev : lts.Need-mul-prev claims asked reads.Post
+  mul-prev c = omega (arith, c .if1 .left)
 
-push-anchor-slice-read-prev : (t : ℕ) → push-anchor-lts.Need-slice-read-prev (
-  one-syllable-reads.Asked,
-  one-syllable-reads.Learnt,
-  survivor-reads.Asked,
-  survivor-reads.Learnt,
-  push-anchor-below t,
-  push-anchor.Post,
-) (push-anchor-at t) push-anchor.Post
-push-anchor-slice-read-prev t c = omega (arith, c .before .if1 .left)
+  slice-read-prev : lts.Need-slice-read-prev claims asked reads.Post
+  slice-read-prev c = omega (arith, c .before .if1 .left)
 
-push-anchor-one-syllable-requires : (t : ℕ) → push-anchor-lts.Need-one-syllable-requires (
-  one-syllable-reads.Asked,
-  one-syllable-reads.Learnt,
-  survivor-reads.Asked,
-  survivor-reads.Learnt,
-  push-anchor-below t,
-  push-anchor.Post,
-) (push-anchor-at t) push-anchor.Post
-push-anchor-one-syllable-requires t c κs =
-    let a = c .before .before .before .before in
-    (a .pre .1 .0, falls-prev _ _ _ (c .before .if1 .left) (a .pre .1 .3), a .pre .1 .2)
+  one-syllable-requires : lts.Need-one-syllable-requires claims asked reads.Post
+  one-syllable-requires c κs =
+      let a = c .before .before .before .before in
+      (a .pre .1 .0, falls-prev _ _ _ (c .before .if1 .left) (a .pre .1 .3), a .pre .1 .2)
 
-push-anchor-survivor-requires : (t : ℕ) → push-anchor-lts.Need-survivor-requires (
-  one-syllable-reads.Asked,
-  one-syllable-reads.Learnt,
-  survivor-reads.Asked,
-  survivor-reads.Learnt,
-  push-anchor-below t,
-  push-anchor.Post,
-) (push-anchor-at t) push-anchor.Post
-push-anchor-survivor-requires t c κs =
-    let a = c .before .before .before .before .before .before in
-    (a .pre .1 .0, falls-prev _ _ _ (c .before .before .before .if1 .left) (a .pre .1 .3), a .pre .1 .2)
+  survivor-requires : lts.Need-survivor-requires claims asked reads.Post
+  survivor-requires c κs =
+      let a = c .before .before .before .before .before .before in
+      (a .pre .1 .0, falls-prev _ _ _ (c .before .before .before .if1 .left) (a .pre .1 .3), a .pre .1 .2)
 
-push-anchor-sub-push-anchor : (t : ℕ) → push-anchor-lts.Need-sub-push-anchor (
-  one-syllable-reads.Asked,
-  one-syllable-reads.Learnt,
-  survivor-reads.Asked,
-  survivor-reads.Learnt,
-  push-anchor-below t,
-  push-anchor.Post,
-) (push-anchor-at t) push-anchor.Post
-push-anchor-sub-push-anchor t c = pos-of-ne-zero (c .before .before .before .before .before .if1 .left)
+  sub-push-anchor : lts.Need-sub-push-anchor claims asked reads.Post
+  sub-push-anchor c = pos-of-ne-zero (c .before .before .before .before .before .if1 .left)
 
-push-anchor-push-anchor-requires : (t : ℕ) → push-anchor-lts.Need-push-anchor-requires (
-  one-syllable-reads.Asked,
-  one-syllable-reads.Learnt,
-  survivor-reads.Asked,
-  survivor-reads.Learnt,
-  push-anchor-below t,
-  push-anchor.Post,
-) (push-anchor-at t) push-anchor.Post
-push-anchor-push-anchor-requires t c κs =
-    let b = c .before .before .before .before .before in
-    let a = c .before .before .before .before .before .before .before .before in (
-      omega (arith, b .if1 .left, a .pre .0),
-      (
-        a .pre .1 .0,
-        omega (arith, b .if1 .left, a .pre .1 .1),
-        rw (c .before .survivor .ensures) (left-within _ _ _ (b .if1 .left) (a .pre .1 .3) _ (survivor-picks _ _) _ (a .pre .1 .2)),
-        rw (c .before .survivor .ensures) (falls-left _ _ _ (b .if1 .left) (a .pre .1 .3) _ (survivor-picks _ _)),
-      ),
-    )
+  push-anchor-requires : lts.Need-push-anchor-requires claims asked reads.Post
+  push-anchor-requires c κs =
+      let b = c .before .before .before .before .before in
+      let a = c .before .before .before .before .before .before .before .before in (
+        omega (arith, b .if1 .left, a .pre .0),
+        (
+          a .pre .1 .0,
+          omega (arith, b .if1 .left, a .pre .1 .1),
+          rw (c .before .survivor .ensures) (left-within _ _ _ (b .if1 .left) (a .pre .1 .3) _ (survivor-picks _ _) _ (a .pre .1 .2)),
+          rw (c .before .survivor .ensures) (falls-left _ _ _ (b .if1 .left) (a .pre .1 .3) _ (survivor-picks _ _)),
+        ),
+      )
 
-push-anchor-mul-kept : (t : ℕ) → push-anchor-lts.Need-mul-kept (
-  one-syllable-reads.Asked,
-  one-syllable-reads.Learnt,
-  survivor-reads.Asked,
-  survivor-reads.Learnt,
-  push-anchor-below t,
-  push-anchor.Post,
-) (push-anchor-at t) push-anchor.Post
-push-anchor-mul-kept t c = omega arith
+  mul-kept : lts.Need-mul-kept claims asked reads.Post
+  mul-kept c = omega arith
 
-push-anchor-slice-write-kept-2 : (t : ℕ) → push-anchor-lts.Need-slice-write-kept-2 (
-  one-syllable-reads.Asked,
-  one-syllable-reads.Learnt,
-  survivor-reads.Asked,
-  survivor-reads.Learnt,
-  push-anchor-below t,
-  push-anchor.Post,
-) (push-anchor-at t) push-anchor.Post
-push-anchor-slice-write-kept-2 t c = omega arith
+  slice-write-kept-2 : lts.Need-slice-write-kept-2 claims asked reads.Post
+  slice-write-kept-2 c = omega arith
 
-push-anchor-add-result : (t : ℕ) → push-anchor-lts.Need-add-result (
-  one-syllable-reads.Asked,
-  one-syllable-reads.Learnt,
-  survivor-reads.Asked,
-  survivor-reads.Learnt,
-  push-anchor-below t,
-  push-anchor.Post,
-) (push-anchor-at t) push-anchor.Post
-push-anchor-add-result t c = omega arith
+  add-result : lts.Need-add-result claims asked reads.Post
+  add-result c = omega arith
 
-push-anchor-same-length-2 : (t : ℕ) → push-anchor-lts.Need-same-length-2 (
-  one-syllable-reads.Asked,
-  one-syllable-reads.Learnt,
-  survivor-reads.Asked,
-  survivor-reads.Learnt,
-  push-anchor-below t,
-  push-anchor.Post,
-) (push-anchor-at t) push-anchor.Post
-push-anchor-same-length-2 t c = c .before .before .push-anchor .kept .1 .1 .1 .0
+  same-length-2 : lts.Need-same-length-2 claims asked reads.Post
+  same-length-2 c = c .before .before .push-anchor .kept .1 .1 .1 .0
 
-push-anchor-returns-2 : (t : ℕ) → push-anchor-lts.Need-returns-2 (
-  one-syllable-reads.Asked,
-  one-syllable-reads.Learnt,
-  survivor-reads.Asked,
-  survivor-reads.Learnt,
-  push-anchor-below t,
-  push-anchor.Post,
-) (push-anchor-at t) push-anchor.Post
-push-anchor-returns-2 t c =
-    let n = c .before .before .before .before in
-    merge-pop _ _ _ _ _ (n .before .before .before .before .if1 .left) (sym (n .before .before .one-syllable .ensures) ∙ n .before .if2 .taken) (rw (n .survivor .ensures) at (c .before .before .push-anchor .ensures))
+  returns-2 : lts.Need-returns-2 claims asked reads.Post
+  returns-2 c =
+      let n = c .before .before .before .before in
+      merge-pop _ _ _ _ _ (n .before .before .before .before .if1 .left) (sym (n .before .before .one-syllable .ensures) ∙ n .before .if2 .taken) (rw (n .survivor .ensures) at (c .before .before .push-anchor .ensures))
 
-push-anchor-same-length-3 : (t : ℕ) → push-anchor-lts.Need-same-length-3 (
-  one-syllable-reads.Asked,
-  one-syllable-reads.Learnt,
-  survivor-reads.Asked,
-  survivor-reads.Learnt,
-  push-anchor-below t,
-  push-anchor.Post,
-) (push-anchor-at t) push-anchor.Post
-push-anchor-same-length-3 t c = search needs
+  same-length-3 : lts.Need-same-length-3 claims asked reads.Post
+  same-length-3 c = search needs
 
-push-anchor-returns-3 : (t : ℕ) → push-anchor-lts.Need-returns-3 (
-  one-syllable-reads.Asked,
-  one-syllable-reads.Learnt,
-  survivor-reads.Asked,
-  survivor-reads.Learnt,
-  push-anchor-below t,
-  push-anchor.Post,
-) (push-anchor-at t) push-anchor.Post
-push-anchor-returns-3 t c = merge-push _ _ _ _ _ (c .before .before .before .if1 .left) (omega arith) (sym (c .before .one-syllable .ensures) ∙ c .if2 .left)
+  returns-3 : lts.Need-returns-3 claims asked reads.Post
+  returns-3 c = merge-push _ _ _ _ _ (c .before .before .before .if1 .left) (omega arith) (sym (c .before .one-syllable .ensures) ∙ c .if2 .left)
 
 pub +push-anchor-spec : {M : Type 1} → statement M
-+push-anchor-spec = close μ-push-anchor λ t. push-anchor-lts.spec (
-  one-syllable-reads.Asked,
-  one-syllable-reads.Learnt,
-  survivor-reads.Asked,
-  survivor-reads.Learnt,
-  push-anchor-below t,
-  push-anchor.Post,
-)
-    (push-anchor-at t)
-    push-anchor.Post
-    (push-anchor-slice-write-kept t)
-    (push-anchor-same-length t)
-    (push-anchor-returns t)
-    (push-anchor-sub-prev t)
-    (push-anchor-mul-prev t)
-    (push-anchor-slice-read-prev t)
-    (push-anchor-one-syllable-requires t)
-    (push-anchor-survivor-requires t)
-    (push-anchor-sub-push-anchor t)
-    (push-anchor-push-anchor-requires t)
-    (push-anchor-mul-kept t)
-    (push-anchor-slice-write-kept-2 t)
-    (push-anchor-add-result t)
-    (push-anchor-same-length-2 t)
-    (push-anchor-returns-2 t)
-    (push-anchor-same-length-3 t)
-    (push-anchor-returns-3 t)
++push-anchor-spec = close count λ t. lts.spec
+    (claims t)
+    (asked t)
+    reads.Post
+    (slice-write-kept t)
+    (same-length t)
+    (returns t)
+    (sub-prev t)
+    (mul-prev t)
+    (slice-read-prev t)
+    (one-syllable-requires t)
+    (survivor-requires t)
+    (sub-push-anchor t)
+    (push-anchor-requires t)
+    (mul-kept t)
+    (slice-write-kept-2 t)
+    (add-result t)
+    (same-length-2 t)
+    (returns-2 t)
+    (same-length-3 t)
+    (returns-3 t)

@@ -7,8 +7,10 @@ use mathlib.Core.List.{_++_}
 use mathlib.Core.Logic.{⊎-elim}
 use lib.ListN.{length}
 use Rattle.nuclei.proofs.Merge.{Merging, merging-start, merging-few, merging-not, merging-one, merging-end}
-use Rattle.extra.specs.Merging.{marked, oneSyllable, survivor, anchors}
-use Rattle.extra.proofs.Anchoring.{marked-is, either-at, narrow, survivor-picks}
+use Rattle.region.specs.Speech.{marked}
+use Rattle.extra.specs.Merging.{oneSyllable, survivor, anchors}
+use Rattle.lists.proofs.Members.{strict-to, strict-below}
+use Rattle.extra.proofs.Anchoring.{marked-is, either-at, survivor-picks}
 use Rattle.extra.proofs.merging.merged.Statement.{statement}
 use Rattle.extra.proofs.merging.merged.Tie as tie
 
@@ -73,7 +75,7 @@ returns c =
     let a = c .before .before .before .before .before .before .before .before in
     let m = c .before .before .marks2 in
     let k : length (m .result) ≡ 2048 = search (needs, m .ok) in
-    let e = marked-is (a .args .peaks .now) (m .result) (m .ensures) k (narrow (length (a .args .s .now)) (a .args .peaks .now) (a .pre .0) (a .pre .2)) in
+    let e = marked-is (a .args .peaks .now) (m .result) (m .ensures) k (strict-below 0 2048 (a .args .peaks .now) (strict-to 0 (length (a .args .s .now)) 2048 (a .args .peaks .now) (a .pre .0) (a .pre .2))) in
     rw e at (merging-end _ _ _ _ _ (c .before .loop .inv .0) (c .loop-test .left) (omega (arith, merging-few _ _ _ _ _ (c .before .loop .inv .0))))
 
 pub merged-spec : {M : Type 1} → statement M

@@ -18,12 +18,12 @@ either-requires c κs = search needs
 sub-if2 : tie.Need-sub-if2
 sub-if2 c = search needs
 
+shallow-valley-requires : tie.Need-shallow-valley-requires
+shallow-valley-requires c κs = search needs
+
 returns : tie.Need-returns
 unfolding oneSyllable
 returns c = rw (sym (c .before .before .before .either .ensures) ∙ c .before .before .if1 .taken, lt-ltb _ _ (c .if2 .taken))
-
-shallow-valley-requires : tie.Need-shallow-valley-requires
-shallow-valley-requires c κs = search needs
 
 returns-2 : tie.Need-returns-2
 unfolding oneSyllable
@@ -41,7 +41,7 @@ one-syllable-spec =
     element-copy-out-either-2
     either-requires
     sub-if2
-    returns
     shallow-valley-requires
+    returns
     returns-2
     returns-3)

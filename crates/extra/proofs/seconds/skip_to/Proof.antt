@@ -3,7 +3,7 @@ use borrow.Author.Needs.{needs}
 use native.Mathlib.Omega.{arith}
 use Prim.Native.Nat.{_-_}
 use lib.ListN.{length}
-use Rattle.extra.specs.Seconds.{Passed}
+use Rattle.extra.specs.Passing.{Passed}
 use Rattle.extra.proofs.Holding.{passed-on}
 use Rattle.extra.proofs.seconds.skip_to.Statement.{statement}
 use Rattle.extra.proofs.seconds.skip_to.Tie as tie

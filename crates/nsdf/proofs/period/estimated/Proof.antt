@@ -3,7 +3,7 @@ use mathlib.Core.Path.{sym, ap, _∙_}
 use borrow.Author.Needs.{needs}
 use lib.Ieee.{Float, binary64, ofBits, div}
 use Rattle.nsdf.specs.declared.period.Estimate.the-variants.{Hz}
-use Rattle.nsdf.specs.Period.{hertz, refined}
+use Rattle.nsdf.specs.Period.{byPeak, refined}
 use Rattle.nsdf.proofs.Literals.{sixteen-thousand}
 use Rattle.nsdf.proofs.Peaks.{peak-within}
 use Rattle.nsdf.proofs.Estimating.{too-low, high-enough}
@@ -30,7 +30,7 @@ returns-2 c =
     let u = c .before .before in
     let d = u .before .before .before .args .d .now in
     let b = u .before .before .best-peak in
-    ap (hertz d) (sym (c .enum-told .given .1)) ∙ high-enough d (b .result) (b .ensures) (u .before .if1 .left) (u .first-peak .result) (u .first-peak .ensures)
+    ap (byPeak d) (sym (c .enum-told .given .1)) ∙ high-enough d (b .result) (b .ensures) (u .before .if1 .left) (u .first-peak .result) (u .first-peak .ensures)
 
 refined-requires : tie.Need-refined-requires
 refined-requires c κs =
@@ -44,7 +44,7 @@ returns-3 c =
     let b = u .before .before .best-peak in
     ap (λ (x : Float). Hz (div binary64 (ofBits binary64 0x40cf_4000_0000_0000) x)) (c .refined .ensures)
     ∙ ap (λ (x : Float). Hz (div binary64 x (refined d (c .before .before .k .given .0 .0)))) sixteen-thousand
-    ∙ ap (hertz d) (sym (c .before .before .k .given .1))
+    ∙ ap (byPeak d) (sym (c .before .before .k .given .1))
     ∙ high-enough d (b .result) (b .ensures) (u .before .if1 .left) (u .first-peak .result) (u .first-peak .ensures)
 
 pub estimated-spec : {M : Type 1} → statement M

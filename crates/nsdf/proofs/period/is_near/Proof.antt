@@ -17,7 +17,7 @@ returns : tie.Need-returns
 returns c = rw (sym (c .before .before .is-peak .ensures) ∙ c .before .if1 .taken)
 
 returns-2 : tie.Need-returns-2
-returns-2 c = rw (sym (c .before .is-peak .ensures) ∙ c .if1 .left)
+returns-2 c = rw (← c .before .is-peak .ensures, c .if1 .left)
 
 pub is-near-spec : {M : Type 1} → statement M
 is-near-spec =

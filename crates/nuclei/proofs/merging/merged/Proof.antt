@@ -34,7 +34,7 @@ cast-push-merging c = search needs
 push-merging-requires : tie.Need-push-merging-requires Inv-loop μ-loop
 push-merging-requires c κs =
     let m = c .before .before .before .loop .inv .0 in
-    (omega (arith, merging-few _ _ _ _ _ m), c .before .before .loop-test .taken, m .order, c .before .before .before .before .before .before .before .before .before .before .pre .2, c .before .before .before .before .before .before .before .before .before .before .pre .3)
+    (omega (arith, merging-few _ _ _ _ _ m), c .before .before .loop-test .taken, m .order, c .before .before .before .before .before .before .before .before .before .before .pre .2)
 
 add-i : tie.Need-add-i Inv-loop μ-loop
 add-i c = search needs

@@ -26,7 +26,7 @@ returns-2 c = rw (le-ltb _ _ (c .before .before .before .if1 .left), sym (c .bef
 
 returns-3 : tie.Need-returns-3
 unfolding oneNucleus
-returns-3 c = rw (le-ltb _ _ (c .before .before .if1 .left), sym (c .before .shallow-valley .ensures) ∙ c .if2 .left)
+returns-3 c = c .if2 .left ∙ rw (le-ltb _ _ (c .before .before .if1 .left), sym (c .before .shallow-valley .ensures) ∙ c .if2 .left)
 
 pub one-nucleus-spec : {M : Type 1} → statement M
 one-nucleus-spec =

@@ -21,16 +21,16 @@ returns c = rw (sym (c .before .before .run-of .ensures) ∙ c .enum-told .given
 clamp-requires : tie.Need-clamp-requires
 clamp-requires c κs = search needs
 
-is-speech-requires : tie.Need-is-speech-requires
-is-speech-requires c κs = search needs
+level-is-speech-requires : tie.Need-level-is-speech-requires
+level-is-speech-requires c κs = search needs
 
 returns-2 : tie.Need-returns-2
 unfolding ontoRun
-returns-2 c = rw (sym (c .before .before .before .before .before .before .run-of .ensures) ∙ c .before .before .before .before .f .given .1, ← c .before .before .clamp .ensures, sym (c .before .is-speech .ensures) ∙ c .if1 .taken)
+returns-2 c = rw (sym (c .before .before .before .before .before .before .run-of .ensures) ∙ c .before .before .before .before .f .given .1, ← c .before .before .clamp .ensures, sym (c .before .level-is-speech .ensures) ∙ c .if1 .taken)
 
 returns-3 : tie.Need-returns-3
 unfolding ontoRun
-returns-3 c = rw (sym (c .before .before .before .before .before .before .run-of .ensures) ∙ c .before .before .before .before .f .given .1, ← c .before .before .clamp .ensures, sym (c .before .is-speech .ensures) ∙ c .if1 .left)
+returns-3 c = rw (sym (c .before .before .before .before .before .before .run-of .ensures) ∙ c .before .before .before .before .f .given .1, ← c .before .before .clamp .ensures, sym (c .before .level-is-speech .ensures) ∙ c .if1 .left)
 
 pub onto-run-spec : {M : Type 1} → statement M
 onto-run-spec =
@@ -41,6 +41,6 @@ onto-run-spec =
     enum-told
     returns
     clamp-requires
-    is-speech-requires
+    level-is-speech-requires
     returns-2
     returns-3)

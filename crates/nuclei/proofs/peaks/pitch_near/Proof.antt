@@ -5,7 +5,7 @@ use Prim.Native.Nat.{_-_, _≤_}
 use lib.ListN.{length}
 use Rattle.runs.specs.Runs.{voiced}
 use Rattle.nuclei.specs.Peaks.{pitchNear}
-use Rattle.nuclei.proofs.Around.{Looking, look-yes, look-on, look-end}
+use Rattle.lists.proofs.Walks.{Looking, look-yes, look-on, look-end}
 use Rattle.nuclei.proofs.peaks.pitch_near.Statement.{statement}
 use Rattle.nuclei.proofs.peaks.pitch_near.Tie as tie
 

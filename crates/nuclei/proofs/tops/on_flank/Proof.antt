@@ -4,9 +4,9 @@ use native.Mathlib.Omega.{arith}
 use Prim.Native.Nat.{ℕ, _-_, _≤_}
 use lib.ListN.{length}
 use lib.Ieee.{lt}
-use Rattle.smooth.specs.Extrema.{at}
+use Rattle.lists.specs.Frames.{at}
 use Rattle.nuclei.specs.Tops.{onFlank}
-use Rattle.nuclei.proofs.Around.{Looking, look-yes, look-on, look-end}
+use Rattle.lists.proofs.Walks.{Looking, look-yes, look-on, look-end}
 use Rattle.nuclei.proofs.tops.on_flank.Statement.{statement}
 use Rattle.nuclei.proofs.tops.on_flank.Tie as tie
 

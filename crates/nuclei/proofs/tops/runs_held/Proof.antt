@@ -21,14 +21,17 @@ loop-holds c =
     let a = c .before .before .before .before .args in
     (omega arith, fill-start _ _ (omega (arith, held-few (spans (a .first .now) (a .last .now)) (a .frames .now))))
 
-mul-push-run : tie.Need-mul-push-run Inv-loop μ-loop
-mul-push-run c = search needs
+mul-run-of : tie.Need-mul-run-of Inv-loop μ-loop
+mul-run-of c = search needs
 
-shared-slice-read-push-run : tie.Need-shared-slice-read-push-run Inv-loop μ-loop
-shared-slice-read-push-run c = search needs
+shared-slice-read-run-of : tie.Need-shared-slice-read-run-of Inv-loop μ-loop
+shared-slice-read-run-of c = search needs
 
-push-run-requires : tie.Need-push-run-requires Inv-loop μ-loop
-push-run-requires c κs = (c .before .before .before .before .before .before .before .before .pre .0, c .before .before .before .before .before .before .before .before .pre .1, λ e. fill-fitsIf _ _ _ e (rw (held-step _ _ _ (c .before .before .loop-test .taken)) at (c .before .before .before .loop .inv .1)))
+run-of-requires : tie.Need-run-of-requires Inv-loop μ-loop
+run-of-requires c κs = search needs
+
+push-number-requires : tie.Need-push-number-requires Inv-loop μ-loop
+push-number-requires c κs = rw (c .before .run-of .ensures) (λ e. fill-fitsIf _ _ _ e (rw (held-step _ _ _ (c .before .before .before .loop-test .taken)) at (c .before .before .before .before .loop .inv .1)))
 
 add-i : tie.Need-add-i Inv-loop μ-loop
 add-i c = search needs
@@ -37,7 +40,7 @@ loop-less : tie.Need-loop-less Inv-loop μ-loop
 loop-less c = search needs
 
 loop-again : tie.Need-loop-again Inv-loop μ-loop
-loop-again c = (omega arith, fill-pushed _ _ (rw (held-step _ _ _ (c .before .before .before .before .before .loop-test .taken)) at (c .before .before .before .before .before .before .loop .inv .1)) (c .before .before .push-run .ensures))
+loop-again c = (omega arith, fill-pushed _ _ (rw (held-step _ _ _ (c .before .before .before .before .before .before .loop-test .taken)) at (c .before .before .before .before .before .before .before .loop .inv .1)) (rw (c .before .before .before .before .run-of .ensures) at (c .before .before .push-number .ensures)))
 
 same-length : tie.Need-same-length Inv-loop μ-loop
 same-length c = fill-length (c .before .loop .inv .1)
@@ -52,9 +55,10 @@ runs-held-spec =
     Inv-loop
     μ-loop
     loop-holds
-    mul-push-run
-    shared-slice-read-push-run
-    push-run-requires
+    mul-run-of
+    shared-slice-read-run-of
+    run-of-requires
+    push-number-requires
     add-i
     loop-less
     loop-again

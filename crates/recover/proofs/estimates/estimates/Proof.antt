@@ -6,7 +6,7 @@ use mathlib.Core.Path.{ap, _∙_}
 use lib.ListN.{length}
 use Rattle.lists.proofs.Fill.{fill-length}
 use Rattle.nsdf.specs.Period.{periodHz}
-use Rattle.recover.specs.Estimates.{held}
+use Rattle.recover.specs.Held.{held}
 use Rattle.recover.proofs.Trying.{Trying, trying-start, trying-more, trying-end}
 use Rattle.recover.proofs.estimates.estimates.Statement.{statement}
 use Rattle.recover.proofs.estimates.estimates.Tie as tie

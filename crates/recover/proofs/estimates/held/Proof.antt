@@ -4,7 +4,7 @@ use mathlib.Core.Path.{sym, ap, _∙_}
 use mathlib.Core.Bool.{false}
 use lib.Ieee.{binary64}
 use Rattle.floats.proofs.Zeros.{zero-bits}
-use Rattle.recover.specs.Estimates.{held}
+use Rattle.recover.specs.Held.{held}
 use Rattle.recover.proofs.estimates.held.Statement.{statement}
 use Rattle.recover.proofs.estimates.held.Tie as tie
 

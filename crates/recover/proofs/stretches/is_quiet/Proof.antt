@@ -4,8 +4,9 @@ use native.Mathlib.Omega.{arith}
 use Prim.Native.Nat.{_-_, _≤_}
 use mathlib.Core.Path.{_≡_, refl, sym, _∙_}
 use borrow.Author.Tests.{not-true, not-false}
+use Rattle.lists.proofs.Walks.{all-on, all-stop, all-over}
+use Rattle.recover.specs.Estimates.{silent}
 use Rattle.recover.specs.Recovered.{quiet}
-use Rattle.recover.proofs.Alone.{quiet-on, quiet-not, quiet-end}
 use Rattle.recover.proofs.stretches.is_quiet.Statement.{statement}
 use Rattle.recover.proofs.stretches.is_quiet.Tie as tie
 
@@ -26,7 +27,7 @@ returns c =
     let u = c .before .before .before in
     let a = c .before .before .before .before .before .args in
     let f = c .before .is-silent in
-    quiet-not (a .pitch .now) (u .loop .i) (a .b) (c .before .before .loop-test .taken) (sym (f .ensures) ∙ not-true (f .result) (c .if1 .taken)) ∙ u .loop .inv .1
+    all-stop (silent (a .pitch .now)) (u .loop .i) (a .b) (c .before .before .loop-test .taken) (sym (f .ensures) ∙ not-true (f .result) (c .if1 .taken)) ∙ u .loop .inv .1
 
 add-i : tie.Need-add-i Inv-loop μ-loop
 add-i c = search needs
@@ -39,13 +40,13 @@ loop-again c =
     let u = c .before .before .before in
     let a = c .before .before .before .before .before .args in
     let f = c .before .is-silent in
-    (omega arith, quiet-on (a .pitch .now) (u .loop .i) (a .b) (c .before .before .loop-test .taken) (sym (f .ensures) ∙ not-false (f .result) (c .if1 .left)) ∙ u .loop .inv .1)
+    (omega arith, all-on (silent (a .pitch .now)) (u .loop .i) (a .b) (c .before .before .loop-test .taken) (sym (f .ensures) ∙ not-false (f .result) (c .if1 .left)) ∙ u .loop .inv .1)
 
 returns-2 : tie.Need-returns-2 Inv-loop μ-loop
 returns-2 c =
     let u = c .before in
     let a = c .before .before .before .args in
-    quiet-end (a .pitch .now) (u .loop .i) (a .b) (c .loop-test .left) ∙ u .loop .inv .1
+    all-over (silent (a .pitch .now)) (u .loop .i) (a .b) (c .loop-test .left) ∙ u .loop .inv .1
 
 pub is-quiet-spec : {M : Type 1} → statement M
 is-quiet-spec =

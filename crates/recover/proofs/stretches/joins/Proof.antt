@@ -6,7 +6,7 @@ use mathlib.Core.Path.{sym, _∙_}
 use lib.ListN.{getD}
 use lib.Ieee.{nan}
 use Rattle.lists.proofs.Entries.{each-at}
-use Rattle.recover.specs.Estimates.{Held}
+use Rattle.powers.specs.Pitch.{PitchOrNone}
 use Rattle.recover.proofs.Reading.{read-range}
 use Rattle.recover.proofs.Walking.{joins-left, joins-right, joins-both}
 use Rattle.recover.proofs.stretches.joins.Statement.{statement}
@@ -64,8 +64,8 @@ within-step-requires c κs =
     let s = c .before .before .before .before .before .before .before .before .before .before .before in
     let xs = s .args .estimates .now in
     let i = s .args .i in (
-      read-range (getD xs (i - 1) nan) (last .last .given .0 .0) (each-at Held xs nan (s .pre .0) (i - 1) (omega arith)) (sym (last .before .before .read .ensures) ∙ last .last .given .1),
-      read-range (getD xs i nan) (here .here .given .0 .0) (each-at Held xs nan (s .pre .0) i (omega arith)) (sym (here .before .before .read2 .ensures) ∙ here .here .given .1),
+      read-range (getD xs (i - 1) nan) (last .last .given .0 .0) (each-at (PitchOrNone 60 600) xs nan (s .pre .0) (i - 1) (omega arith)) (sym (last .before .before .read .ensures) ∙ last .last .given .1),
+      read-range (getD xs i nan) (here .here .given .0 .0) (each-at (PitchOrNone 60 600) xs nan (s .pre .0) i (omega arith)) (sym (here .before .before .read2 .ensures) ∙ here .here .given .1),
     )
 
 returns-3 : tie.Need-returns-3

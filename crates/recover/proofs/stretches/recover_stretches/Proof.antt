@@ -4,7 +4,7 @@ use Prim.Native.Nat.{_-_}
 use mathlib.Core.Path.{sym, ap, _∙_}
 use mathlib.Core.List.{map}
 use lib.ListN.{length, length-map}
-use Rattle.recover.specs.Estimates.{readOf}
+use Rattle.recover.specs.Held.{readOf}
 use Rattle.recover.proofs.Settling.{Settled, settled-start, settled-stored, settled-kept, settled-end, end-bounds}
 use Rattle.recover.proofs.stretches.recover_stretches.Statement.{statement}
 use Rattle.recover.proofs.stretches.recover_stretches.Tie as tie

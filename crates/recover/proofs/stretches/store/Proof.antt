@@ -1,21 +1,24 @@
 -- `stretches::store` meets its contract: up to frame i the pitches are stored. Assumes nothing.
 use borrow.Author.Needs.{needs}
 use native.Mathlib.Omega.{arith}
-use Prim.Native.Nat.{ℕ, _-_, _≤_}
-use mathlib.Core.Path.{_≡_, subst}
-use Rattle.recover.specs.Recovered.{Stored}
-use Rattle.recover.proofs.Settling.{store-start, store-more}
+use Prim.Native.Nat.{_-_}
+use mathlib.Core.Path.{sym, _∙_}
+use mathlib.Core.List.{map}
+use lib.ListN.{length-map, List·getD-map}
+use lib.Ieee.{nan}
+use Rattle.floats.specs.Narrow.{narrow}
+use Rattle.lists.proofs.Replaced.{Writing, write-start, write-length, write-more, write-end}
 use Rattle.recover.proofs.stretches.store.Statement.{statement}
 use Rattle.recover.proofs.stretches.store.Tie as tie
 
 abbrev Inv-loop : tie.InvT-loop
-Inv-loop estimates s e pitch₀ i₀ pitch i = (s ≤ i) × ((i ≤ e) × Stored estimates s i pitch₀ pitch)
+Inv-loop estimates s e pitch₀ i₀ pitch i = Writing (map narrow estimates) pitch₀ s e pitch i
 
 abbrev μ-loop : tie.MeasureT-loop
 μ-loop estimates s e pitch₀ i₀ pitch i = e - i
 
 loop-holds : tie.Need-loop-holds Inv-loop μ-loop
-loop-holds c = (omega arith, (c .before .before .pre .0, store-start (c .before .before .args .estimates .now) (c .before .before .args .s) (c .before .before .args .pitch .now)))
+loop-holds c = write-start _ _ _ _ (c .before .before .pre .0) (omega (arith, length-map (c .before .before .args .estimates .now) narrow)) (omega arith)
 
 mul-round-to-f32 : tie.Need-mul-round-to-f32 Inv-loop μ-loop
 mul-round-to-f32 c = search needs
@@ -27,10 +30,10 @@ round-to-f32-requires : tie.Need-round-to-f32-requires Inv-loop μ-loop
 round-to-f32-requires c κs = search needs
 
 mul-pitch : tie.Need-mul-pitch Inv-loop μ-loop
-mul-pitch c = omega (arith, c .before .before .before .loop .inv .1 .1 .size, c .before .before .before .before .before .before .pre)
+mul-pitch c = omega (arith, write-length _ _ _ _ (c .before .before .before .loop .inv))
 
 slice-write-pitch : tie.Need-slice-write-pitch Inv-loop μ-loop
-slice-write-pitch c = omega (arith, c .before .before .before .loop .inv .1 .1 .size, c .before .before .before .before .before .before .pre)
+slice-write-pitch c = omega (arith, write-length _ _ _ _ (c .before .before .before .loop .inv))
 
 add-i : tie.Need-add-i Inv-loop μ-loop
 add-i c = search needs
@@ -39,19 +42,16 @@ loop-less : tie.Need-loop-less Inv-loop μ-loop
 loop-less c = search needs
 
 loop-again : tie.Need-loop-again Inv-loop μ-loop
+unfolding narrow
 loop-again c =
-    let u = c .before .before .before in
-    (omega arith, (omega arith, store-more (c .round-to-f32 .result) (u .loop .inv .0) (omega (arith, c .before .before .before .before .before .before .pre)) (c .round-to-f32 .ensures) (u .loop .inv .1 .1)))
+    let u = c .before .before .before .loop in
+    write-more _ _ _ _ (u .inv) nan _ (c .before .before .loop-test .taken) (c .round-to-f32 .ensures ∙ sym (List·getD-map narrow (c .before .before .before .before .before .before .args .estimates .now) (u .i) nan))
 
 same-length : tie.Need-same-length Inv-loop μ-loop
-same-length c = c .before .loop .inv .1 .1 .size
+same-length c = write-length _ _ _ _ (c .before .loop .inv)
 
 returns : tie.Need-returns Inv-loop μ-loop
-returns c =
-    let u = c .before in
-    let a = c .before .before .before .before .args in
-    let end : u .loop .i ≡ a .e = omega arith in
-    subst (λ (k : ℕ). Stored (a .estimates .now) (a .s) k (a .pitch .now) (u .loop .pitch)) end (u .loop .inv .1 .1)
+returns c = write-end _ _ _ _ (c .before .loop .inv) (c .loop-test .left)
 
 pub store-spec : {M : Type 1} → statement M
 store-spec =

@@ -1,21 +1,20 @@
 -- `runs::syllables::dropouts` meets its contract: the lent lists hold the long runs, which lie in the track. Assumes nothing.
 use native.Mathlib.Omega.{arith}
-use mathlib.Core.Path.{sym, _∙_}
 use lib.ListN.{length}
 use borrow.Author.Needs.{needs}
 use Rattle.lists.proofs.Fill.{listed-fits, listed-count}
 use Rattle.runs.specs.Runs.{longRuns}
 use Rattle.runs.specs.Syllables.{dropouts}
 use Rattle.runs.proofs.Spacing.{spaced-within, long-spaced, long-few}
-use Rattle.runs.proofs.Spans.{written, holds-within}
+use Rattle.runs.proofs.Spans.{written, holds-in}
 use Rattle.runs.proofs.syllables.dropouts.Statement.{statement}
 use Rattle.runs.proofs.syllables.dropouts.Tie as tie
 
-blank-requires : tie.Need-blank-requires
-blank-requires c κs = search needs
+blank-list-requires : tie.Need-blank-list-requires
+blank-list-requires c κs = search needs
 
-blank-requires-2 : tie.Need-blank-requires-2
-blank-requires-2 c κs = search needs
+blank-list-requires-2 : tie.Need-blank-list-requires-2
+blank-list-requires-2 c κs = search needs
 
 slice-aggregate-long-runs : tie.Need-slice-aggregate-long-runs
 slice-aggregate-long-runs c = search needs
@@ -42,7 +41,7 @@ dropouts-of-requires : tie.Need-dropouts-of-requires
 dropouts-of-requires c κs =
     let pitch = c .before .before .before .before .before .before .before .before .before .before .before .before .before .before .args .pitch .now in
     let w = written (longRuns pitch) (c .before .before .before .before .before .before .long-runs .ensures) in
-    (w .firsts-many ∙ sym (w .lasts-many), omega (arith, w .firsts-many, long-few pitch), omega (arith, w .firsts-many, long-few pitch), holds-within (length pitch) w (spaced-within 0 (length pitch) (longRuns pitch) (long-spaced pitch)))
+    (holds-in (length pitch) w (spaced-within 0 (length pitch) (longRuns pitch) (long-spaced pitch)), omega (arith, w .firsts-many, long-few pitch), omega (arith, w .firsts-many, long-few pitch))
 
 same-length : tie.Need-same-length
 same-length c = search needs
@@ -60,8 +59,8 @@ pub dropouts-spec : {M : Type 1} → statement M
 dropouts-spec =
     tie.close
     (tie.spec
-    blank-requires
-    blank-requires-2
+    blank-list-requires
+    blank-list-requires-2
     slice-aggregate-long-runs
     slice-aggregate-long-runs-2
     long-runs-requires

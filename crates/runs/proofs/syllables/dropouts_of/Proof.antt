@@ -6,8 +6,7 @@ use mathlib.Core.Bool.{not}
 use mathlib.Core.Logic.{⊎-elim}
 use lib.ListN.{length}
 use borrow.Author.Needs.{needs}
-use Rattle.lists.proofs.Fill.{fill-length}
-use Rattle.runs.proofs.Spans.{within-at}
+use Rattle.runs.proofs.Spans.{within-at, spans-lengths}
 use Rattle.runs.proofs.Syllabic.{Gapping, gapping-start, gapping-room, gapping-yes, gapping-no, gapping-end}
 use Rattle.runs.proofs.syllables.dropouts_of.Statement.{statement}
 use Rattle.runs.proofs.syllables.dropouts_of.Tie as tie
@@ -40,23 +39,23 @@ breaks-from-requires : tie.Need-breaks-from-requires Inv-loop μ-loop
 breaks-from-requires c κs =
     let a = c .before .before .before .before .before .before .before .before .before .args in
     let at = c .before .before .before .loop .i in
-    let in-track = within-at (length (a .pitch .now)) (a .first .now) (a .last .now) (c .before .before .before .before .before .before .before .before .before .pre .0) (c .before .before .before .before .before .before .before .before .before .pre .3) in
+    let in-track = within-at (length (a .pitch .now)) (a .first .now) (a .last .now) (c .before .before .before .before .before .before .before .before .before .pre .0 .0) (c .before .before .before .before .before .before .before .before .before .pre .0 .1) in
     (omega (arith, in-track (at - 1) (omega arith)), omega (arith, in-track at (c .before .before .loop-test .taken)))
 
 mul-before : tie.Need-mul-before Inv-loop μ-loop
-mul-before c = omega (arith, gapping-room _ _ _ _ _ (c .before .before .before .before .before .before .before .before .before .before .before .pre .0) (c .before .before .before .before .before .loop .inv) (c .before .before .before .before .loop-test .taken) (ap not (sym (c .before .breaks-from .ensures)) ∙ c .if1 .taken), fill-length (c .before .before .before .before .before .loop .inv .bs))
+mul-before c = omega (arith, gapping-room _ _ _ _ _ (c .before .before .before .before .before .before .before .before .before .before .before .pre .0 .0) (c .before .before .before .before .before .loop .inv) (c .before .before .before .before .loop-test .taken) (ap not (sym (c .before .breaks-from .ensures)) ∙ c .if1 .taken))
 
 slice-write-before : tie.Need-slice-write-before Inv-loop μ-loop
-slice-write-before c = gapping-room _ _ _ _ _ (c .before .before .before .before .before .before .before .before .before .before .before .pre .0) (c .before .before .before .before .before .loop .inv) (c .before .before .before .before .loop-test .taken) (ap not (sym (c .before .breaks-from .ensures)) ∙ c .if1 .taken) .0
+slice-write-before c = gapping-room _ _ _ _ _ (c .before .before .before .before .before .before .before .before .before .before .before .pre .0 .0) (c .before .before .before .before .before .loop .inv) (c .before .before .before .before .loop-test .taken) (ap not (sym (c .before .breaks-from .ensures)) ∙ c .if1 .taken) .0
 
 mul-after : tie.Need-mul-after Inv-loop μ-loop
-mul-after c = omega (arith, gapping-room _ _ _ _ _ (c .before .before .before .before .before .before .before .before .before .before .before .pre .0) (c .before .before .before .before .before .loop .inv) (c .before .before .before .before .loop-test .taken) (ap not (sym (c .before .breaks-from .ensures)) ∙ c .if1 .taken), fill-length (c .before .before .before .before .before .loop .inv .zs))
+mul-after c = omega (arith, gapping-room _ _ _ _ _ (c .before .before .before .before .before .before .before .before .before .before .before .pre .0 .0) (c .before .before .before .before .before .loop .inv) (c .before .before .before .before .loop-test .taken) (ap not (sym (c .before .breaks-from .ensures)) ∙ c .if1 .taken))
 
 slice-write-after : tie.Need-slice-write-after Inv-loop μ-loop
-slice-write-after c = gapping-room _ _ _ _ _ (c .before .before .before .before .before .before .before .before .before .before .before .pre .0) (c .before .before .before .before .before .loop .inv) (c .before .before .before .before .loop-test .taken) (ap not (sym (c .before .breaks-from .ensures)) ∙ c .if1 .taken) .1
+slice-write-after c = gapping-room _ _ _ _ _ (c .before .before .before .before .before .before .before .before .before .before .before .pre .0 .0) (c .before .before .before .before .before .loop .inv) (c .before .before .before .before .loop-test .taken) (ap not (sym (c .before .breaks-from .ensures)) ∙ c .if1 .taken) .1
 
 add-n : tie.Need-add-n Inv-loop μ-loop
-add-n c = omega (arith, gapping-room _ _ _ _ _ (c .before .before .before .before .before .before .before .before .before .before .before .pre .0) (c .before .before .before .before .before .loop .inv) (c .before .before .before .before .loop-test .taken) (ap not (sym (c .before .breaks-from .ensures)) ∙ c .if1 .taken), fill-length (c .before .before .before .before .before .loop .inv .bs))
+add-n c = omega (arith, gapping-room _ _ _ _ _ (c .before .before .before .before .before .before .before .before .before .before .before .pre .0 .0) (c .before .before .before .before .before .loop .inv) (c .before .before .before .before .loop-test .taken) (ap not (sym (c .before .breaks-from .ensures)) ∙ c .if1 .taken))
 
 add-i : tie.Need-add-i Inv-loop μ-loop
 add-i c = search needs
@@ -68,7 +67,7 @@ loop-again : tie.Need-loop-again Inv-loop μ-loop
 loop-again c =
     let g = c .before .before .before .before .before .loop .inv in
     let h = c .before .before .before .before .loop-test .taken in
-    let same = c .before .before .before .before .before .before .before .before .before .before .before .pre .0 in
+    let same = c .before .before .before .before .before .before .before .before .before .before .before .pre .0 .0 in
     let b = ap not (sym (c .before .breaks-from .ensures)) in
     ⊎-elim
     (λ w. rw (w .1, w .2, w .3) (gapping-yes _ _ _ _ _ same g h (b ∙ w .0 .taken)))
@@ -76,13 +75,13 @@ loop-again c =
     (c .if1 .came)
 
 same-length : tie.Need-same-length Inv-loop μ-loop
-same-length c = fill-length (c .before .loop .inv .bs)
+same-length c = spans-lengths (c .before .loop .inv .ends) .0
 
 same-length-2 : tie.Need-same-length-2 Inv-loop μ-loop
-same-length-2 c = fill-length (c .before .loop .inv .zs)
+same-length-2 c = spans-lengths (c .before .loop .inv .ends) .1
 
 returns : tie.Need-returns Inv-loop μ-loop
-returns c = gapping-end _ _ _ _ _ (c .before .before .before .before .before .before .before .pre .0) (c .before .loop .inv) (c .loop-test .left)
+returns c = gapping-end _ _ _ _ _ (c .before .before .before .before .before .before .before .pre .0 .0) (c .before .loop .inv) (c .loop-test .left)
 
 pub dropouts-of-spec : {M : Type 1} → statement M
 dropouts-of-spec =

@@ -19,7 +19,7 @@ add-end : tie.Need-add-end Inv-loop μ-loop
 add-end c = search needs
 
 loop-holds : tie.Need-loop-holds Inv-loop μ-loop
-loop-holds c = joining-start _ _ _ (c .before .before .before .pre .0) _ (c .before .before .before .pre .1)
+loop-holds c = joining-start _ _ _ (c .before .before .before .pre .0 .0) _ (c .before .before .before .pre .1)
 
 sub-breaks-from : tie.Need-sub-breaks-from Inv-loop μ-loop
 sub-breaks-from c = search needs
@@ -40,11 +40,11 @@ breaks-from-requires : tie.Need-breaks-from-requires Inv-loop μ-loop
 breaks-from-requires c κs =
     let a = c .before .before .before .before .before .before .before .args in
     let at = c .before .before .before .loop .end in
-    let in-track = within-at (length (a .pitch .now)) (a .first .now) (a .last .now) (c .before .before .before .before .before .before .before .pre .0) (c .before .before .before .before .before .before .before .pre .2) in
+    let in-track = within-at (length (a .pitch .now)) (a .first .now) (a .last .now) (c .before .before .before .before .before .before .before .pre .0 .0) (c .before .before .before .before .before .before .before .pre .0 .1) in
     (omega (arith, in-track (at - 1) (omega arith)), omega (arith, in-track at (c .before .before .loop-test .taken)))
 
 returns : tie.Need-returns Inv-loop μ-loop
-returns c = (c .before .before .before .before .before .loop .inv .past, c .before .before .before .before .before .loop .inv .within, joining-cut _ _ _ (c .before .before .before .before .before .before .before .before .before .pre .0) (c .before .before .before .before .before .loop .inv) (c .before .before .before .before .loop-test .taken) (sym (c .before .breaks-from .ensures) ∙ c .if1 .taken))
+returns c = joining-cut _ _ _ (c .before .before .before .before .before .before .before .before .before .pre .0 .0) (c .before .before .before .before .before .loop .inv) (c .before .before .before .before .loop-test .taken) (sym (c .before .breaks-from .ensures) ∙ c .if1 .taken)
 
 add-end-2 : tie.Need-add-end-2 Inv-loop μ-loop
 add-end-2 c = search needs
@@ -53,10 +53,10 @@ loop-less : tie.Need-loop-less Inv-loop μ-loop
 loop-less c = search needs
 
 loop-again : tie.Need-loop-again Inv-loop μ-loop
-loop-again c = joining-on _ _ _ (c .before .before .before .before .before .before .before .before .before .pre .0) (c .before .before .before .before .before .loop .inv) (c .before .before .before .before .loop-test .taken) (sym (c .before .breaks-from .ensures) ∙ c .if1 .left)
+loop-again c = joining-on _ _ _ (c .before .before .before .before .before .before .before .before .before .pre .0 .0) (c .before .before .before .before .before .loop .inv) (c .before .before .before .before .loop-test .taken) (sym (c .before .breaks-from .ensures) ∙ c .if1 .left)
 
 returns-2 : tie.Need-returns-2 Inv-loop μ-loop
-returns-2 c = (c .before .loop .inv .past, c .before .loop .inv .within, joining-end _ _ _ (c .before .before .before .before .before .pre .0) (c .before .loop .inv) (c .loop-test .left))
+returns-2 c = joining-end _ _ _ (c .before .before .before .before .before .pre .0 .0) (c .before .loop .inv) (c .loop-test .left)
 
 pub syllable-end-spec : {M : Type 1} → statement M
 syllable-end-spec =

@@ -3,7 +3,7 @@ use Prim.Native.Nat.{_-_}
 use native.Mathlib.Omega.{arith}
 use lib.ListN.{length}
 use borrow.Author.Needs.{needs}
-use Rattle.lists.proofs.Fill.{fill-length}
+use Rattle.runs.proofs.Spans.{spans-lengths}
 use Rattle.runs.proofs.Syllabic.{Cutting, cutting-start, cutting-room, cutting-on, cutting-end}
 use Rattle.runs.proofs.syllables.syllables_of.Statement.{statement}
 use Rattle.runs.proofs.syllables.syllables_of.Tie as tie
@@ -27,10 +27,10 @@ shared-slice-read-heads : tie.Need-shared-slice-read-heads Inv-loop μ-loop
 shared-slice-read-heads c = search needs
 
 mul-heads-2 : tie.Need-mul-heads-2 Inv-loop μ-loop
-mul-heads-2 c = omega (arith, cutting-room _ _ _ _ _ _ (c .before .syllable-end .ensures .2) (c .before .before .before .loop .inv), fill-length (c .before .before .before .loop .inv .hs))
+mul-heads-2 c = omega (arith, cutting-room _ _ _ _ _ _ (c .before .syllable-end .ensures) (c .before .before .before .loop .inv))
 
 slice-write-heads : tie.Need-slice-write-heads Inv-loop μ-loop
-slice-write-heads c = cutting-room _ _ _ _ _ _ (c .before .syllable-end .ensures .2) (c .before .before .before .loop .inv) .0
+slice-write-heads c = cutting-room _ _ _ _ _ _ (c .before .syllable-end .ensures) (c .before .before .before .loop .inv) .0
 
 sub-tails : tie.Need-sub-tails Inv-loop μ-loop
 sub-tails c = search needs
@@ -42,25 +42,25 @@ shared-slice-read-tails : tie.Need-shared-slice-read-tails Inv-loop μ-loop
 shared-slice-read-tails c = search needs
 
 mul-tails-2 : tie.Need-mul-tails-2 Inv-loop μ-loop
-mul-tails-2 c = omega (arith, cutting-room _ _ _ _ _ _ (c .before .before .syllable-end .ensures .2) (c .before .before .before .before .loop .inv), fill-length (c .before .before .before .before .loop .inv .ts))
+mul-tails-2 c = omega (arith, cutting-room _ _ _ _ _ _ (c .before .before .syllable-end .ensures) (c .before .before .before .before .loop .inv))
 
 slice-write-tails : tie.Need-slice-write-tails Inv-loop μ-loop
-slice-write-tails c = cutting-room _ _ _ _ _ _ (c .before .before .syllable-end .ensures .2) (c .before .before .before .before .loop .inv) .1
+slice-write-tails c = cutting-room _ _ _ _ _ _ (c .before .before .syllable-end .ensures) (c .before .before .before .before .loop .inv) .1
 
 add-n : tie.Need-add-n Inv-loop μ-loop
-add-n c = omega (arith, cutting-room _ _ _ _ _ _ (c .before .before .syllable-end .ensures .2) (c .before .before .before .before .loop .inv), fill-length (c .before .before .before .before .loop .inv .hs))
+add-n c = omega (arith, cutting-room _ _ _ _ _ _ (c .before .before .syllable-end .ensures) (c .before .before .before .before .loop .inv))
 
 loop-less : tie.Need-loop-less Inv-loop μ-loop
 loop-less c = search needs
 
 loop-again : tie.Need-loop-again Inv-loop μ-loop
-loop-again c = cutting-on _ _ _ _ _ _ (c .before .before .syllable-end .ensures .2) (c .before .before .before .before .loop .inv) (c .before .before .syllable-end .ensures .1)
+loop-again c = cutting-on _ _ _ _ _ _ (c .before .before .syllable-end .ensures) (c .before .before .before .before .loop .inv)
 
 same-length : tie.Need-same-length Inv-loop μ-loop
-same-length c = fill-length (c .before .loop .inv .hs)
+same-length c = spans-lengths (c .before .loop .inv .ends) .0
 
 same-length-2 : tie.Need-same-length-2 Inv-loop μ-loop
-same-length-2 c = fill-length (c .before .loop .inv .ts)
+same-length-2 c = spans-lengths (c .before .loop .inv .ends) .1
 
 returns : tie.Need-returns Inv-loop μ-loop
 returns c = cutting-end _ _ _ _ _ (c .loop-test .left) (c .before .loop .inv)

@@ -3,7 +3,7 @@ use Prim.Native.Nat.{_-_}
 use native.Mathlib.Omega.{arith}
 use lib.ListN.{length}
 use borrow.Author.Needs.{needs}
-use Rattle.lists.proofs.Fill.{fill-length}
+use Rattle.runs.proofs.Spans.{spans-lengths}
 use Rattle.runs.proofs.Walking.{RunningLong, running-long-start, running-long-room, running-long-on, running-long-end}
 use Rattle.runs.proofs.voiced.long_runs.Statement.{statement}
 use Rattle.runs.proofs.voiced.long_runs.Tie as tie
@@ -42,10 +42,10 @@ loop-again : tie.Need-loop-again Inv-loop μ-loop
 loop-again c = running-long-on _ _ _ _ (c .before .before .before .before .before .before .before .before .before .run-from .ensures .0) (c .before .before .before .before .before .before .before .before .before .before .before .loop .inv) (c .before .before .before .before .before .before .push-long .ensures) (c .next-voiced2 .ensures)
 
 same-length : tie.Need-same-length Inv-loop μ-loop
-same-length c = fill-length (c .before .loop .inv .fs)
+same-length c = spans-lengths (c .before .loop .inv .ends) .0
 
 same-length-2 : tie.Need-same-length-2 Inv-loop μ-loop
-same-length-2 c = fill-length (c .before .loop .inv .ls)
+same-length-2 c = spans-lengths (c .before .loop .inv .ends) .1
 
 returns : tie.Need-returns Inv-loop μ-loop
 returns c = running-long-end _ _ _ (c .loop-test .left) (c .before .loop .inv)

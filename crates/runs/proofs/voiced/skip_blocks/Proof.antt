@@ -1,5 +1,5 @@
 -- `runs::voiced::skip_blocks` meets its contract: from i up to `at` no frame is voiced. Assumes nothing.
-use Prim.Native.Nat.{_+_, _-_, _≤_}
+use Prim.Native.Nat.{_-_, _≤_}
 use native.Mathlib.Omega.{arith}
 use mathlib.Core.Path.{_≡_, refl, _∙_}
 use lib.ListN.{length}

@@ -4,6 +4,7 @@ use native.Mathlib.Omega.{arith}
 use lib.ListN.{length}
 use borrow.Author.Needs.{needs}
 use Rattle.lists.proofs.Fill.{fill-length}
+use Rattle.runs.proofs.Spans.{spans-lengths}
 use Rattle.runs.proofs.Walking.{Running, running-start, running-room, running-on, running-end}
 use Rattle.runs.proofs.voiced.voiced_runs.Statement.{statement}
 use Rattle.runs.proofs.voiced.voiced_runs.Tie as tie
@@ -24,25 +25,25 @@ run-from-requires : tie.Need-run-from-requires Inv-loop μ-loop
 run-from-requires c κs = (omega arith, c .loop-test .taken, c .before .loop .inv .here (c .loop-test .taken))
 
 mul-first : tie.Need-mul-first Inv-loop μ-loop
-mul-first c = omega (arith, running-room _ _ _ _ (c .run-from .ensures .0) (c .before .before .loop .inv), fill-length (c .before .before .loop .inv .fs))
+mul-first c = omega (arith, running-room _ _ _ _ (c .run-from .ensures .0) (c .before .before .loop .inv), spans-lengths (c .before .before .loop .inv .ends))
 
 slice-write-first : tie.Need-slice-write-first Inv-loop μ-loop
 slice-write-first c = running-room _ _ _ _ (c .run-from .ensures .0) (c .before .before .loop .inv) .0
 
 mul-last : tie.Need-mul-last Inv-loop μ-loop
-mul-last c = omega (arith, running-room _ _ _ _ (c .run-from .ensures .0) (c .before .before .loop .inv), fill-length (c .before .before .loop .inv .ls))
+mul-last c = omega (arith, running-room _ _ _ _ (c .run-from .ensures .0) (c .before .before .loop .inv), spans-lengths (c .before .before .loop .inv .ends))
 
 slice-write-last : tie.Need-slice-write-last Inv-loop μ-loop
 slice-write-last c = running-room _ _ _ _ (c .run-from .ensures .0) (c .before .before .loop .inv) .1
 
 mul-size : tie.Need-mul-size Inv-loop μ-loop
-mul-size c = omega (arith, running-room _ _ _ _ (c .run-from .ensures .0) (c .before .before .loop .inv), fill-length (c .before .before .loop .inv .ss))
+mul-size c = omega (arith, running-room _ _ _ _ (c .run-from .ensures .0) (c .before .before .loop .inv), fill-length (c .before .before .loop .inv .sizes))
 
 slice-write-size : tie.Need-slice-write-size Inv-loop μ-loop
 slice-write-size c = running-room _ _ _ _ (c .run-from .ensures .0) (c .before .before .loop .inv) .2
 
 add-n : tie.Need-add-n Inv-loop μ-loop
-add-n c = omega (arith, running-room _ _ _ _ (c .run-from .ensures .0) (c .before .before .loop .inv), fill-length (c .before .before .loop .inv .fs))
+add-n c = omega (arith, running-room _ _ _ _ (c .run-from .ensures .0) (c .before .before .loop .inv), spans-lengths (c .before .before .loop .inv .ends))
 
 cast-next-voiced : tie.Need-cast-next-voiced Inv-loop μ-loop
 cast-next-voiced c = search needs
@@ -60,13 +61,13 @@ loop-again : tie.Need-loop-again Inv-loop μ-loop
 loop-again c = running-on _ _ _ _ (c .before .before .run-from .ensures .0) (c .before .before .before .before .loop .inv) (c .next-voiced2 .ensures)
 
 same-length : tie.Need-same-length Inv-loop μ-loop
-same-length c = fill-length (c .before .loop .inv .fs)
+same-length c = spans-lengths (c .before .loop .inv .ends) .0
 
 same-length-2 : tie.Need-same-length-2 Inv-loop μ-loop
-same-length-2 c = fill-length (c .before .loop .inv .ls)
+same-length-2 c = spans-lengths (c .before .loop .inv .ends) .1
 
 same-length-3 : tie.Need-same-length-3 Inv-loop μ-loop
-same-length-3 c = fill-length (c .before .loop .inv .ss)
+same-length-3 c = fill-length (c .before .loop .inv .sizes)
 
 returns : tie.Need-returns Inv-loop μ-loop
 returns c = running-end _ _ _ (c .loop-test .left) (c .before .loop .inv)

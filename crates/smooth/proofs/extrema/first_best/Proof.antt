@@ -4,7 +4,7 @@ use native.Mathlib.Omega.{arith}
 use mathlib.Core.Path.{_∙_}
 use borrow.Author.Needs.{needs}
 use Rattle.smooth.proofs.Best.{unbeaten-test}
-use Rattle.smooth.proofs.Walks.{Seeking, seek-start, seek-on, seek-stop, seek-end}
+use Rattle.lists.proofs.Walks.{Seeking, seek-start, seek-on, seek-stop, seek-end}
 use Rattle.smooth.specs.Extrema.{unbeaten, firstBest}
 use Rattle.smooth.proofs.extrema.first_best.Statement.{statement}
 use Rattle.smooth.proofs.extrema.first_best.Tie as tie

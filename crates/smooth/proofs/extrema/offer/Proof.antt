@@ -8,7 +8,8 @@ use borrow.Author.Tests.{lt-ltb, le-ltb, le-leb, lt-leb}
 use lib.ListN.{set}
 use Rattle.lists.specs.Results.{Pushed}
 use Rattle.lists.proofs.Fill.{pushed-yes, pushed-no}
-use Rattle.smooth.specs.Extrema.{at, middle, offered}
+use Rattle.lists.specs.Frames.{at}
+use Rattle.smooth.specs.Extrema.{middle, offered}
 use Rattle.smooth.proofs.extrema.offer.Statement.{statement}
 use Rattle.smooth.proofs.extrema.offer.Tie as tie
 

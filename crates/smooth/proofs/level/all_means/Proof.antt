@@ -5,7 +5,7 @@ use mathlib.Core.Path.{sym, _∙_}
 use borrow.Author.Needs.{needs}
 use lib.ListN.{length}
 use Rattle.smooth.proofs.Averages.{length-means}
-use Rattle.smooth.proofs.Replaced.{replaced-all, replaced-parts}
+use Rattle.lists.proofs.Replaced.{replaced-all, replaced-parts}
 use Rattle.smooth.proofs.level.all_means.Statement.{statement}
 use Rattle.smooth.proofs.level.all_means.Tie as tie
 

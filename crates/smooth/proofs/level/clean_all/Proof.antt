@@ -6,7 +6,7 @@ use mathlib.Core.List.{map}
 use borrow.Author.Needs.{needs}
 use lib.ListN.{List·getD-map, length, length-map}
 use lib.Ieee.{nan}
-use Rattle.smooth.proofs.Replaced.{replaced-all, Writing, write-start, write-length, write-more, write-end}
+use Rattle.lists.proofs.Replaced.{replaced-all, Writing, write-start, write-length, write-more, write-end}
 use Rattle.smooth.specs.Level.{clean}
 use Rattle.smooth.proofs.level.clean_all.Statement.{statement}
 use Rattle.smooth.proofs.level.clean_all.Tie as tie

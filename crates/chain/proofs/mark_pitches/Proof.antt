@@ -1,0 +1,48 @@
+-- `mark_pitches` meets its contract: the recovery is lent the marks of the track's frames. Assumes nothing.
+use borrow.Author.Needs.{needs}
+use native.Mathlib.Omega.{arith}
+use mathlib.Core.Path.{sym}
+use lib.Seq.{length-take-le}
+use Rattle.chain.proofs.Marking.{marks-lent}
+use Rattle.chain.proofs.mark_pitches.Statement.{statement}
+use Rattle.chain.proofs.mark_pitches.Tie as tie
+
+repair-octaves-requires : tie.Need-repair-octaves-requires
+repair-octaves-requires c κs = search needs
+
+slice-aggregate-speech-frames : tie.Need-slice-aggregate-speech-frames
+slice-aggregate-speech-frames c = search needs
+
+speech-frames-requires : tie.Need-speech-frames-requires
+speech-frames-requires c κs = search needs
+
+array-share-prefix-speech : tie.Need-array-share-prefix-speech
+array-share-prefix-speech c = search needs
+
+slice-aggregate-recover-pitch : tie.Need-slice-aggregate-recover-pitch
+slice-aggregate-recover-pitch c = sym (length-take-le _ _ (omega arith))
+
+recover-pitch-requires : tie.Need-recover-pitch-requires
+recover-pitch-requires c κs = search needs
+
+same-length : tie.Need-same-length
+same-length c = search needs
+
+returns : tie.Need-returns
+returns c =
+    let s = c .before .before .before .before .before .before .before .before .before .before .before .before .before .before .before in
+    let q = marks-lent (s .args .db .now) (s .args .p) _ (c .before .before .before .before .before .before .speech-frames .ensures) in
+    rw (c .before .before .before .before .before .before .before .before .before .before .repair-octaves .ensures, q) at (c .before .before .recover-pitch .ensures)
+
+pub mark-pitches-spec : {M : Type 1} → statement M
+mark-pitches-spec =
+    tie.close
+    (tie.spec
+    repair-octaves-requires
+    slice-aggregate-speech-frames
+    speech-frames-requires
+    array-share-prefix-speech
+    slice-aggregate-recover-pitch
+    recover-pitch-requires
+    same-length
+    returns)

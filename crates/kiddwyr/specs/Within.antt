@@ -1,0 +1,64 @@
+-- What the functions between a list of records and plain lists do: plain lists of 2,048 entries stand for a list of records, and are refused as it would be.
+-- No entry's promise speaks of them. Definitions only.
+use Prim.Native.Nat.{ℕ, _≤_}
+use mathlib.Core.Path.{_≡_}
+use mathlib.Core.List.{List, [], _∷_}
+use lib.ListN.{length, take}
+use lib.Ieee.{Float}
+use Rattle.lists.specs.Results.{overlay, Listed, Front}
+use Rattle.region.specs.declared.Settings.{Settings}
+use Rattle.nuclei.specs.Nuclei as found
+use Rattle.admit.specs.Refusals.{nucleiRefusal, extrasRefusal}
+use Rattle.entries.specs.Stages.{nucleiEntry, extrasEntry, edgesEntry}
+use Rattle.entries.specs.declared.stages.Answer.{Answer}
+use Rattle.entries.specs.declared.stages.Counted.{Counted}
+use Rattle.chain.specs.Chain.{Take, Lists, refusalFor, readingBy, answerBy}
+use Rattle.chain.specs.declared.Marks.{Marks}
+use Rattle.kiddwyr.specs.declared.Nucleus.{Nucleus}
+use Rattle.kiddwyr.specs.Records.{framesIn}
+
+-- each frame with its strength, as far as both lists go
+abbrev pub paired : List ℕ → List Float → List Nucleus
+paired [] ss = []
+paired (f ∷ fs) [] = []
+paired (f ∷ fs) (s ∷ ss) = record { frame = f; strength = s } ∷ paired fs ss
+
+-- `fill_nuclei`: the first count frames and strengths at the front of a list of records
+abbrev pub Filled : List ℕ → List Float → ℕ → List Nucleus → List Nucleus → Type 0
+Filled frames strengths count old new = new ≡ overlay (paired (take count frames) (take count strengths)) old
+
+-- `take_frames`: as many frames as there is room for
+abbrev pub Taken : List Nucleus → List ℕ → List ℕ → ℕ → Type 0
+Taken nuclei old new r = Listed (take (length old) (framesIn nuclei)) old new r
+
+-- lists that stand for any list of records: no take has more nuclei
+abbrev pub Scratch : List ℕ → List Float → Type 0
+Scratch frames strengths = (length frames ≡ 2048) × (length strengths ≡ 2048)
+
+-- what two lists hold of nuclei at their front, as far as the count r, for a list of records with so much room
+pub record Laid (ns : List found.Nucleus) (frames : List ℕ) (strengths : List Float) (room r : ℕ) : Type 0 where
+  pub framed : Front (found.framesOf ns) frames r
+  pub strong : Front (found.strengthsOf ns) strengths r
+  pub fits : r ≤ room
+
+-- `nuclei_within`
+abbrev pub NucleiWithin : List Float → List Float → ℕ → ℕ → Settings → ℕ → List ℕ → List Float → Answer → Type 0
+NucleiWithin db pitch start end p room frames strengths r =
+    (r .refusal ≡ nucleiRefusal db pitch start end p room room) × Laid (nucleiEntry db pitch start end p room room) frames strengths room (r .count)
+
+-- `extras_within`
+abbrev pub ExtrasWithin : List Float → List Float → List Float → ℕ → ℕ → List ℕ → Settings → ℕ → List ℕ → List Float → List ℕ → List ℕ → Counted → Type 0
+ExtrasWithin db pitch sonority start end nuclei p room frames strengths oldEdges newEdges r =
+    let e = length oldEdges in
+    (r .refusal ≡ extrasRefusal db pitch sonority start end nuclei p room room e)
+    × Laid (extrasEntry db pitch sonority start end nuclei p room room e) frames strengths room (r .extras)
+    × Listed (edgesEntry db pitch sonority start end nuclei p room room e) oldEdges newEdges (r .edges)
+
+-- `chain_within`: nuclei and extras at the front of their lists, edges and boundaries over what was lent; `pitch` is the track that it leaves
+abbrev pub ChainWithin : Take → ℕ → ℕ → List ℕ → List ℕ → Lists → List Float → Marks → Type 0
+ChainWithin t room xroom oldEdges oldBounds new pitch r =
+    let number = refusalFor t room room xroom xroom (length oldEdges) (length oldBounds) in
+    let m = readingBy t number in
+    (r ≡ answerBy t number) × (pitch ≡ m .pitch)
+    × Laid (m .nuclei) (new .frames) (new .strengths) room (r .nuclei) × Laid (m .extras) (new .xframes) (new .xstrengths) xroom (r .extras)
+    × (new .edges ≡ overlay (m .edges) oldEdges) × (new .bounds ≡ overlay (m .boundaries) oldBounds)

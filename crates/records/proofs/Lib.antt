@@ -1,6 +1,0 @@
-pub mod Chained
-pub mod Demand3
-pub mod Filling
-pub mod Given
-pub mod Rooms
-pub mod Steps
