@@ -3,10 +3,10 @@ use Prim.Native.Nat.{ℕ, _+_, _<_, _≤_}
 use native.Mathlib.Numerals.{add-one}
 use native.Mathlib.Omega.{arith}
 use mathlib.Core.Path.{_≡_, refl, sym, ap, ap₂, _∙_}
-use mathlib.Core.Bool.{Bool, true, false, not, _&&_, cond, false≢true}
-use mathlib.Core.List.{List, [], _∷_, map}
+use mathlib.Core.Bool.{Bool, true, false, not, _&&_, _||_, cond, and-true, and-assoc, false≢true}
+use mathlib.Core.List.{List, [], _∷_, map, map-congr-left}
 use mathlib.Core.Logic.{_⊎_, inl, inr}
-use borrow.Author.Tests.{not-true, not-false, ltb-true, eqb-true, eqb-false}
+use borrow.Author.Tests.{not-true, not-false, ltb-true, eqb-true, eq-eqb}
 use lib.Dec.{ltb, eqb}
 use lib.ListN.{length, drop, getD, drop-of-length-le}
 use lib.Seq.{drop-cons}
@@ -16,13 +16,27 @@ use Rattle.lists.proofs.Tests.{and-cases, or-cases}
 use Rattle.admit.specs.Values.{allOf}
 use Rattle.admit.specs.First.{Test, firstOf, passes, firstFailed}
 
--- ---- by what the tests are known to equal
-pub stop : (n : ℕ) (ns : List ℕ) {b : Bool} (bs : List Bool) → b ≡ false → n ≡ firstOf (n ∷ ns) (b ∷ bs)
-unfolding firstOf
-stop n ns bs h = simp h
+-- ---- by what the tests are known to equal, those of a number joined one after the other as the code does
+unfoldable pub passedInTurn : Bool → List Test → ℕ → Bool
+passedInTurn before [] n = before
+passedInTurn before (t ∷ tests) n = passedInTurn (cond (eqb (t .number) n) (before && t .passed) before) tests n
 
-pub numbered : (ns : List ℕ) {bs ts : List Bool} {r : ℕ} → r ≡ firstOf ns bs → bs ≡ ts → r ≡ firstOf ns ts
-numbered ns e h = e ∙ ap (firstOf ns) h
+join-one : (same before b later : Bool) → (before && ((not same || b) && later)) ≡ (cond same (before && b) before && later)
+join-one true before b later = sym (and-assoc before b later)
+join-one false before b later = refl
+
+joined-pass : (before : Bool) (tests : List Test) (n : ℕ) → (before && passes tests n) ≡ passedInTurn before tests n
+unfolding passes allOf passedInTurn
+joined-pass before [] n = and-true before
+joined-pass before (t ∷ tests) n = join-one (eqb (t .number) n) before (t .passed) (passes tests n) ∙ joined-pass _ tests n
+
+pub numbered : (order : List ℕ) (tests : List Test) {bs : List Bool} {r : ℕ} → r ≡ firstOf order bs → bs ≡ map (passedInTurn true tests) order → r ≡ firstFailed order tests
+unfolding firstFailed
+numbered order tests e h = e ∙ ap (firstOf order) (h ∙ sym (map-congr-left {f = passes tests} {g = passedInTurn true tests} {l = order} (λ n _. joined-pass true tests n)))
+
+pub stop : (n : ℕ) (ns : List ℕ) (tests : List Test) → passedInTurn true tests n ≡ false → n ≡ firstFailed (n ∷ ns) tests
+unfolding firstFailed firstOf
+stop n ns tests h = simp (joined-pass true tests n ∙ h)
 
 pub next : {b t : Bool} {bs ts : List Bool} → b ≡ t → bs ≡ ts → (b ∷ bs) ≡ (t ∷ ts)
 next e h = ap₂ _∷_ e h
@@ -66,22 +80,17 @@ numbers-passed p (m ∷ ns) l h n e =
     go (inr q) f g = g q
 
 -- each test of a number
-tests-passed : (before : Bool) (ts : List Test) (n : ℕ) → passes before ts n ≡ true → (before ≡ true) × Each (λ t. t .number ≡ n → t .passed ≡ true) ts
-unfolding passes
-tests-passed before [] n h = (h, tt)
-tests-passed before (t ∷ ts) n h =
-    let rest = tests-passed (cond (eqb (t .number) n) (before && t .passed) before) ts n h in
-    let here = go (eqb (t .number) n) refl (rest .0) in
-    (here .0, (here .1, rest .1))
-  where
-    go : (b : Bool) → eqb (t .number) n ≡ b → cond b (before && t .passed) before ≡ true → (before ≡ true) × (t .number ≡ n → t .passed ≡ true)
-    go true q e = let both = and-cases before (t .passed) e in (both .0, λ _. both .1)
-    go false q e = (e, λ same. absurd (eqb-false (t .number) n q same))
+tests-passed : (ts : List Test) (n : ℕ) → passes ts n ≡ true → Each (λ t. t .number ≡ n → t .passed ≡ true) ts
+unfolding passes allOf
+tests-passed [] n h = tt
+tests-passed (t ∷ ts) n h =
+    let both = and-cases (not (eqb (t .number) n) || t .passed) (passes ts n) h in
+    ((λ same. rw (eq-eqb (t .number) n same) at (both .0)), tests-passed ts n (both .1))
 
 -- 0 means that each test is passed whose number is in the order
 pub all-passed : (order : List ℕ) (tests : List Test) → allOf (ltb 0) order ≡ true → allOf (λ t. member order (t .number)) tests ≡ true → firstFailed order tests ≡ 0 → Each (λ t. t .passed ≡ true) tests
 unfolding allOf firstFailed
-all-passed order tests l m h = go tests m (λ n e. tests-passed true tests n (numbers-passed (passes true tests) order l h n e) .1)
+all-passed order tests l m h = go tests m (λ n e. tests-passed tests n (numbers-passed (passes tests) order l h n e))
   where
     go : (ts : List Test) → allOf (λ t. member order (t .number)) ts ≡ true → ((n : ℕ) → member order n ≡ true → Each (λ t. t .number ≡ n → t .passed ≡ true) ts) → Each (λ t. t .passed ≡ true) ts
     go [] m f = tt

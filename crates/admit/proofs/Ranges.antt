@@ -1,18 +1,20 @@
 -- The constants of the code are the numbers of the definitions, and what the test of a pitch says. Assumes nothing.
 use Prim.Native.Nat.{ℕ}
-use mathlib.Core.Path.{_≡_, refl, sym, _∙_, ap, subst}
-use mathlib.Core.Bool.{true, false}
+use mathlib.Core.Path.{_≡_, refl, sym, _∙_, ap, ap₂}
+use mathlib.Core.Bool.{true, false, _&&_}
 use mathlib.Core.Logic.{_⊎_, inl, inr}
 use borrow.Author.Tests.{eqb-true}
 use lib.Dec.{T, eqb}
-use lib.Ieee.{Float, binary32, ofBits, ofInt, toBits, fits, le}
+use lib.Ieee.{Float, binary32, ofBits, ofInt, toBits, fits}
+use Rattle.floats.specs.Plain.{isBetween}
 use Rattle.floats.specs.Total.{valueOf, placed}
 use Rattle.floats.proofs.Order.{value-back}
 use Rattle.floats.proofs.Zeros.{zero-bits, zero-int}
-use Rattle.lists.proofs.Tests.{and-cases, or-cases}
+use Rattle.lists.proofs.Tests.{or-cases}
 use Rattle.powers.specs.Pitch.{PitchOrNone}
+use Rattle.powers.proofs.Ranges.{in-range}
 use Rattle.powers.proofs.UnitLaws.{bound-below, bound-above}
-use Rattle.admit.specs.Values.{number, within, pitchAdmitted}
+use Rattle.admit.specs.Values.{number, pitchAdmitted}
 
 -- ---- the constants
 pub n0 : ofBits binary32 0 ≡ number 0
@@ -49,10 +51,8 @@ n4000 = refl
 -- ---- what the repair asks of a pitch; an f32 whose bits are those of +0.0 is +0.0
 pub repairable-is : (x : Float) → T (fits binary32 x) → pitchAdmitted (number 40) (number 2000) x ≡ true → PitchOrNone 40 2000 x
 unfolding pitchAdmitted ofInt
-repairable-is x f h = go (or-cases (eqb (toBits binary32 x) 0) (within (number 40) (number 2000) x) h)
+repairable-is x f h = go (or-cases (eqb (toBits binary32 x) 0) (isBetween (number 40) (number 2000) x) h)
   where
-    go : (eqb (toBits binary32 x) 0 ≡ true) ⊎ (within (number 40) (number 2000) x ≡ true) → PitchOrNone 40 2000 x
+    go : (eqb (toBits binary32 x) 0 ≡ true) ⊎ (isBetween (number 40) (number 2000) x ≡ true) → PitchOrNone 40 2000 x
     go (inl e) = inl (sym (value-back x f) ∙ ap (λ (b : ℕ). valueOf (placed b)) (eqb-true (toBits binary32 x) 0 e) ∙ zero-bits binary32 false)
-    go (inr e) =
-        let both = and-cases (le (number 40) x) (le x (number 2000)) e in
-        inr (subst T (sym (both .0) ∙ bound-below 5 3 x) tt, subst T (sym (both .1) ∙ bound-above 125 4 x) tt)
+    go (inr e) = inr (in-range 40 2000 x (sym (ap₂ _&&_ (bound-below 5 3 x) (bound-above 125 4 x)) ∙ e))

@@ -1,8 +1,9 @@
 -- Tests with numbers, and the first number of which one fails: what every table of refusals goes by. Definitions only.
 use Prim.Native.Nat.{ℕ}
-use mathlib.Core.Bool.{Bool, true, _&&_, cond}
+use mathlib.Core.Bool.{Bool, not, _||_, cond}
 use mathlib.Core.List.{List, [], _∷_, map}
 use lib.Dec.{eqb}
+use Rattle.admit.specs.Values.{allOf}
 
 -- the number of a refusal, and whether what is given passes
 pub record Test : Type 0 where
@@ -15,11 +16,10 @@ firstOf numbers [] = 0
 firstOf [] (b ∷ passed) = 0
 firstOf (n ∷ numbers) (b ∷ passed) = cond b (firstOf numbers passed) n
 
--- whether the tests of a number are passed, after those that were `before`
-unfoldable pub passes : Bool → List Test → ℕ → Bool
-passes before [] n = before
-passes before (t ∷ tests) n = passes (cond (eqb (t .number) n) (before && t .passed) before) tests n
+-- whether each test of number n is passed
+unfoldable pub passes : List Test → ℕ → Bool
+passes tests n = allOf (λ t. not (eqb (t .number) n) || t .passed) tests
 
 -- the first number, in the order of the numbers, of which a test fails
 unfoldable pub firstFailed : List ℕ → List Test → ℕ
-firstFailed order tests = firstOf order (map (passes true tests) order)
+firstFailed order tests = firstOf order (map (passes tests) order)

@@ -5,9 +5,10 @@ use mathlib.Core.List.{List, [], _∷_, map}
 use lib.Dec.{leb, eqb}
 use lib.ListN.{length}
 use lib.Ieee.{Float}
+use Rattle.floats.specs.Plain.{isBetween}
 use Rattle.region.specs.Defaults.{defaults}
 use Rattle.region.specs.declared.Settings.{Settings}
-use Rattle.admit.specs.Values.{number, within, dbAdmitted, pitchAdmitted, shareAdmitted, markAdmitted, allOf, rising}
+use Rattle.admit.specs.Values.{number, dbAdmitted, pitchAdmitted, shareAdmitted, markAdmitted, allOf, rising}
 use Rattle.admit.specs.First.{Test, firstFailed}
 
 -- what an entry may be given, as far as it is tested; n is how many frames it has
@@ -28,8 +29,8 @@ test number passed = record { number = number; passed = passed }
 unfoldable pub tested : Given → Test
 tested (Size m) = test 1 (leb m 2048)
 tested (Alike n m) = test 2 (eqb m n)
-tested (Margin x) = test 3 (within (number 0) (number 200) x)
-tested (Dip x) = test 3 (within (number 0) (number 200) x)
+tested (Margin x) = test 3 (isBetween (number 0) (number 200) x)
+tested (Dip x) = test 3 (isBetween (number 0) (number 200) x)
 tested (Gap k) = test 3 (leb k 1000)
 tested (Db track) = test 4 (allOf dbAdmitted track)
 tested (Pitch lo hi track) = test 5 (allOf (pitchAdmitted (number lo) (number hi)) track)

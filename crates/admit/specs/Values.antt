@@ -4,29 +4,25 @@ use mathlib.Core.Bool.{Bool, true, not, _&&_, _||_}
 use mathlib.Core.List.{List, [], _∷_}
 use lib.IntN.{pos}
 use lib.Dec.{leb, ltb, eqb}
-use lib.Ieee.{Float, binary32, ofInt, toBits, le}
+use lib.Ieee.{Float, binary32, ofInt, toBits}
 use lib.Ieee.Scale.{finite}
-use Rattle.floats.specs.Plain.{magnitude}
+use Rattle.floats.specs.Plain.{magnitude, isBetween}
 
 -- a whole number as an f32
 abbrev pub number : ℕ → Float
 number n = ofInt binary32 (pos n)
 
--- from lo to hi, both admitted; a NaN is nowhere
-abbrev pub within : Float → Float → Float → Bool
-within lo hi x = le lo x && le x hi
-
 -- dB: finite within -1,000 to 1,000, or not finite
 unfoldable pub dbAdmitted : Float → Bool
-dbAdmitted d = not (finite d) || within (number 0) (number 1000) (magnitude d)
+dbAdmitted d = not (finite d) || isBetween (number 0) (number 1000) (magnitude d)
 
 -- a pitch: +0.0, which is none, by its bits, since those of -0.0 are others; or from lo to hi Hz
 unfoldable pub pitchAdmitted : Float → Float → Float → Bool
-pitchAdmitted lo hi x = eqb (toBits binary32 x) 0 || within lo hi x
+pitchAdmitted lo hi x = eqb (toBits binary32 x) 0 || isBetween lo hi x
 
 -- a share, as `voiced_p` and sonority are: 0 to 1
 abbrev pub shareAdmitted : Float → Bool
-shareAdmitted = within (number 0) (number 1)
+shareAdmitted = isBetween (number 0) (number 1)
 
 -- a mark: 0 or 1
 abbrev pub markAdmitted : ℕ → Bool

@@ -4,7 +4,8 @@ ghost use mathlib.Core.Path.{_≡_};
 ghost use mathlib.Core.Bool.{_&&_};
 ghost use Prim.Native.Nat.{_+_};
 ghost use lib.Dec.{leb, ltb};
-ghost use Rattle.admit.specs.Values.{number, within, dbAdmitted, pitchAdmitted, markAdmitted, allOf, rising};
+ghost use Rattle.floats.specs.Plain.{isBetween};
+ghost use Rattle.admit.specs.Values.{number, dbAdmitted, pitchAdmitted, markAdmitted, allOf, rising};
 use floats::bits::to_bits;
 use floats::plain::is_finite;
 use floats::plain::magnitude;
@@ -12,7 +13,7 @@ use region::Settings;
 
 // From lo to hi, the ends included. A NaN is not.
 fn within(x: f32, lo: f32, hi: f32) -> bool
-    ensures { λ r. ⌜ r ≡ within lo hi x ⌝ }
+    ensures { λ r. ⌜ r ≡ isBetween lo hi x ⌝ }
 {
     (lo <= x) & (x <= hi)
 }
@@ -33,8 +34,8 @@ fn pitch_admitted(x: f32, lo: f32, hi: f32) -> bool
 
 // Margin and dip from 0 to 200 dB, and the gap.
 pub fn settings_admitted(p: Settings) -> bool
-    ensures { λ r. ⌜ r ≡ (within (number 0) (number 200) (p .margin) && within (number 0) (number 200) (p .dip) && leb (p .gap)
-        1000) ⌝ }
+    ensures { λ r. ⌜ r ≡ (isBetween (number 0) (number 200) (p .margin) && isBetween (number 0) (number 200) (p .dip) &&
+        leb (p .gap) 1000) ⌝ }
 {
     within(p.margin, 0.0, 200.0) & within(p.dip, 0.0, 200.0) & (p.gap <= 1000)
 }
@@ -67,7 +68,7 @@ pub fn all_pitches(pitch: &[f32], lo: f32, hi: f32) -> bool
 
 // Every value of a track from lo to hi; -0.0 counts as 0.
 pub fn all_within(track: &[f32], lo: f32, hi: f32) -> bool
-    ensures { λ r. ⌜ r ≡ allOf (within lo hi) (now (track .entry)) ⌝ }
+    ensures { λ r. ⌜ r ≡ allOf (isBetween lo hi) (now (track .entry)) ⌝ }
 {
     let mut good = true;
     let mut i = 0;

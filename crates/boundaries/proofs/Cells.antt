@@ -19,7 +19,7 @@ use Rattle.lists.proofs.Entries.{each-map, each-of-map}
 use Rattle.lists.proofs.Sorting.{sorted-only}
 use Rattle.lists.proofs.Members.{member-append, each-member, in-order-sorted}
 use Rattle.boundaries.specs.Keeping.{clear, tryAdd, addAll, ends}
-use Rattle.boundaries.specs.Taken.{cells, Taken, Added, takenFrames}
+use Rattle.boundaries.specs.Taken.{cells, Taken, AddedInTurn, takenFrames}
 use Rattle.boundaries.specs.Promises.{Near}
 use Rattle.boundaries.proofs.Adding.{Far, clear-yes, clear-no, add-append}
 use Rattle.lists.proofs.Marking.{flag-is}
@@ -143,17 +143,17 @@ module _ (cap at : ℕ) where
   off true d q = q
   off false d q = refl
 
-  pub try-full : (m : List ℕ) (c : ℕ) → cap ≤ c → Added cap (at ∷ []) m c m c
+  pub try-full : (m : List ℕ) (c : ℕ) → cap ≤ c → AddedInTurn cap (at ∷ []) m c m c
   try-full m c h = record {
     adds = λ kept t. subst (λ (l : List ℕ). Taken l m c) (sym (stays kept (ap (λ (b : Bool). b && clear at kept) (le-ltb (length kept) cap (omega (arith, t .count)))))) t;
   }
 
-  pub try-near : (m : List ℕ) (c : ℕ) → (around m at ≡ 0 → ⊥) → Added cap (at ∷ []) m c m c
+  pub try-near : (m : List ℕ) (c : ℕ) → (around m at ≡ 0 → ⊥) → AddedInTurn cap (at ∷ []) m c m c
   try-near m c s = record {
     adds = λ kept t. subst (λ (l : List ℕ). Taken l m c) (sym (stays kept (off (ltb (length kept) cap) (clear at kept) (around-some t at s)))) t;
   }
 
-  pub try-put : (m : List ℕ) (c : ℕ) → c < cap → at ≤ 2048 → around m at ≡ 0 → Added cap (at ∷ []) m c (set m (at + 2) 1) (c + 1)
+  pub try-put : (m : List ℕ) (c : ℕ) → c < cap → at ≤ 2048 → around m at ≡ 0 → AddedInTurn cap (at ∷ []) m c (set m (at + 2) 1) (c + 1)
   try-put m c g h s = record {
     adds = λ kept t.
         subst (λ (l : List ℕ). Taken l (set m (at + 2) 1) (c + 1))
@@ -162,12 +162,12 @@ module _ (cap at : ℕ) where
   }
 
 -- nothing to try
-pub add-none : (cap : ℕ) (m : List ℕ) (c : ℕ) → Added cap [] m c m c
+pub add-none : (cap : ℕ) (m : List ℕ) (c : ℕ) → AddedInTurn cap [] m c m c
 unfolding addAll
 add-none cap m c = record { adds = λ kept t. t }
 
 -- one list after the other
-pub add-then : {cap : ℕ} {xs ys m m' m'' : List ℕ} {c c' c'' : ℕ} → Added cap xs m c m' c' → Added cap ys m' c' m'' c'' → Added cap (xs ++ ys) m c m'' c''
+pub add-then : {cap : ℕ} {xs ys m m' m'' : List ℕ} {c c' c'' : ℕ} → AddedInTurn cap xs m c m' c' → AddedInTurn cap ys m' c' m'' c'' → AddedInTurn cap (xs ++ ys) m c m'' c''
 add-then {cap} {xs} {ys} {m} {m'} {m''} {c} {c'} {c''} f g = record {
   adds = λ kept t. subst (λ (l : List ℕ). Taken l m'' c'') (sym (add-append cap kept xs ys)) (g .adds (addAll cap kept xs) (f .adds kept t));
 }
@@ -184,14 +184,14 @@ pub record Trying (cap : ℕ) (whole rest m₀ : List ℕ) (c₀ : ℕ) (m : Lis
 pub trying-start : (cap : ℕ) (whole m : List ℕ) (c : ℕ) → Trying cap whole whole m c m c
 trying-start cap whole m c = record { left = λ kept t. record { held = kept; holds = t; same = refl } }
 
-pub trying-some : {cap : ℕ} {whole xs rest m₀ m m' : List ℕ} {c₀ c c' : ℕ} → Trying cap whole (xs ++ rest) m₀ c₀ m c → Added cap xs m c m' c' → Trying cap whole rest m₀ c₀ m' c'
+pub trying-some : {cap : ℕ} {whole xs rest m₀ m m' : List ℕ} {c₀ c c' : ℕ} → Trying cap whole (xs ++ rest) m₀ c₀ m c → AddedInTurn cap xs m c m' c' → Trying cap whole rest m₀ c₀ m' c'
 trying-some {cap} {whole} {xs} {rest} f g = record {
   left = λ kept t.
       let l = f .left kept t in
       record { held = addAll cap (l .held) xs; holds = g .adds (l .held) (l .holds); same = sym (add-append cap (l .held) xs rest) ∙ l .same };
 }
 
-pub trying-end : {cap : ℕ} {whole m₀ m : List ℕ} {c₀ c : ℕ} → Trying cap whole [] m₀ c₀ m c → Added cap whole m₀ c₀ m c
+pub trying-end : {cap : ℕ} {whole m₀ m : List ℕ} {c₀ c : ℕ} → Trying cap whole [] m₀ c₀ m c → AddedInTurn cap whole m₀ c₀ m c
 unfolding addAll
 trying-end {cap} {whole} {m₀} {m} {c₀} {c} f = record { adds = λ kept t. let l = f .left kept t in subst (λ (k : List ℕ). Taken k m c) (l .same) (l .holds) }
 

@@ -17,18 +17,18 @@ use Rattle.lists.proofs.Fill.{drop-step, filter-le, filter-append}
 use Rattle.lists.proofs.Entries.{each-map, each-filter}
 use Rattle.lists.proofs.Members.{strict-at, strict-get}
 use Rattle.smooth.specs.Extrema.{argminMiddle, shallow}
-use Rattle.runs.specs.Runs.{Span, Within}
+use Rattle.runs.specs.Runs.{Span, InTrack}
 use Rattle.runs.specs.Near.{runOf, Answers}
 use Rattle.runs.specs.declared.near.Found.{Found}
 use Rattle.runs.specs.declared.near.Found.the-variants.{At, Nothing}
 use Rattle.runs.proofs.Nearest.{run-of-answers, found-each}
 use Rattle.boundaries.specs.Joints.{jointBy, joint, joints, inner, jointsInside}
-use Rattle.boundaries.specs.Taken.{Added}
+use Rattle.boundaries.specs.Taken.{AddedInTurn}
 use Rattle.boundaries.proofs.Cells.{add-none, add-then, Trying, trying-some, trying-end}
 use Rattle.boundaries.proofs.Turns.{In}
 
 -- the run that is found lies in the track
-pub found-within : (n : ℕ) (rs : List Span) (at k f l : ℕ) → Within n rs → runOf rs at ≡ At k f l → l < n
+pub found-within : (n : ℕ) (rs : List Span) (at k f l : ℕ) → InTrack n rs → runOf rs at ≡ At k f l → l < n
 found-within n rs at k f l w e = found-each (λ r. (r .first ≤ r .last) × (r .last < n)) rs at k f l w (subst (Answers at rs) e (run-of-answers at rs)) .1
 
 -- ---- the cases of a joint
@@ -83,33 +83,33 @@ module _ (start end at : ℕ) where
   only b e = ap (λ (t : Bool). consIf t at []) e
 
   -- a frame strictly inside the region is tried
-  pub tried-inside : {cap : ℕ} {m m' : List ℕ} {c c' : ℕ} → start < at → at < end → Added cap (at ∷ []) m c m' c' → Added cap (filter (inner start end) (at ∷ [])) m c m' c'
-  tried-inside {cap} {m} {m'} {c} {c'} h g a = subst (λ (xs : List ℕ). Added cap xs m c m' c') (sym (only true (and-both (ltb start at) (ltb at end) (lt-ltb start at h) (lt-ltb at end g)))) a
+  pub tried-inside : {cap : ℕ} {m m' : List ℕ} {c c' : ℕ} → start < at → at < end → AddedInTurn cap (at ∷ []) m c m' c' → AddedInTurn cap (filter (inner start end) (at ∷ [])) m c m' c'
+  tried-inside {cap} {m} {m'} {c} {c'} h g a = subst (λ (xs : List ℕ). AddedInTurn cap xs m c m' c') (sym (only true (and-both (ltb start at) (ltb at end) (lt-ltb start at h) (lt-ltb at end g)))) a
 
 module _ (start end at cap : ℕ) (m : List ℕ) (c : ℕ) where
-  none-inside : inner start end at ≡ false → Added cap (filter (inner start end) (at ∷ [])) m c m c
-  none-inside e = subst (λ (xs : List ℕ). Added cap xs m c m c) (sym (only start end at false e)) (add-none cap m c)
+  none-inside : inner start end at ≡ false → AddedInTurn cap (filter (inner start end) (at ∷ [])) m c m c
+  none-inside e = subst (λ (xs : List ℕ). AddedInTurn cap xs m c m c) (sym (only start end at false e)) (add-none cap m c)
 
   -- another is not
-  pub left-out : at ≤ start → Added cap (filter (inner start end) (at ∷ [])) m c m c
+  pub left-out : at ≤ start → AddedInTurn cap (filter (inner start end) (at ∷ [])) m c m c
   left-out h = none-inside (ap (λ (t : Bool). t && ltb at end) (le-ltb start at h))
 
-  pub right-out : start < at → end ≤ at → Added cap (filter (inner start end) (at ∷ [])) m c m c
+  pub right-out : start < at → end ≤ at → AddedInTurn cap (filter (inner start end) (at ∷ [])) m c m c
   right-out g h = none-inside (ap (λ (t : Bool). t && ltb at end) (lt-ltb start at g) ∙ le-ltb at end h)
 
 -- both edges of a break
-pub two-inside : (p : ℕ → Bool) (l f : ℕ) {cap : ℕ} {m m' m'' : List ℕ} {c c' c'' : ℕ} → Added cap (filter p (l ∷ [])) m c m' c' → Added cap (filter p (f ∷ [])) m' c' m'' c'' → Added cap (filter p (l ∷ f ∷ [])) m c m'' c''
-two-inside p l f {cap} {m} {m'} {m''} {c} {c'} {c''} a b = subst (λ (xs : List ℕ). Added cap xs m c m'' c'') (sym (filter-append p (l ∷ []) (f ∷ []))) (add-then a b)
+pub two-inside : (p : ℕ → Bool) (l f : ℕ) {cap : ℕ} {m m' m'' : List ℕ} {c c' c'' : ℕ} → AddedInTurn cap (filter p (l ∷ [])) m c m' c' → AddedInTurn cap (filter p (f ∷ [])) m' c' m'' c'' → AddedInTurn cap (filter p (l ∷ f ∷ [])) m c m'' c''
+two-inside p l f {cap} {m} {m'} {m''} {c} {c'} {c''} a b = subst (λ (xs : List ℕ). AddedInTurn cap xs m c m'' c'') (sym (filter-append p (l ∷ []) (f ∷ []))) (add-then a b)
 
 module _ (level : List Float) (rs : List Span) (dip : Float) (start end : ℕ) (ns : List ℕ) (i : ℕ) {cap : ℕ} {whole m₀ m : List ℕ} {c₀ c : ℕ}
     (t : Trying cap whole (jointsInside level rs dip start end (drop i ns)) m₀ c₀ m c) where
-  pub joints-step : i + 1 < length ns → {js m' : List ℕ} {c' : ℕ} → js ≡ joint level rs dip (getD ns i 0) (getD ns (i + 1) 0) → Added cap (filter (inner start end) js) m c m' c' →
+  pub joints-step : i + 1 < length ns → {js m' : List ℕ} {c' : ℕ} → js ≡ joint level rs dip (getD ns i 0) (getD ns (i + 1) 0) → AddedInTurn cap (filter (inner start end) js) m c m' c' →
       Trying cap whole (jointsInside level rs dip start end (drop (i + 1) ns)) m₀ c₀ m' c'
   joints-step h {js} {m'} {c'} e a =
       trying-some (subst (λ (rest : List ℕ). Trying cap whole rest m₀ c₀ m c) (joints-on level rs dip start end ns i h) t)
-      (subst (λ (xs : List ℕ). Added cap (filter (inner start end) xs) m c m' c') e a)
+      (subst (λ (xs : List ℕ). AddedInTurn cap (filter (inner start end) xs) m c m' c') e a)
 
-  pub joints-end : length ns ≤ i + 1 → Added cap whole m₀ c₀ m c
+  pub joints-end : length ns ≤ i + 1 → AddedInTurn cap whole m₀ c₀ m c
   joints-end h = trying-end (subst (λ (rest : List ℕ). Trying cap whole rest m₀ c₀ m c) (joints-over level rs dip start end ns i h) t)
 
 -- ---- the joints lie inside the region, and are few

@@ -3,6 +3,5 @@ pub mod Spreading
 pub mod Cells
 pub mod Turns
 pub mod Jointly
-pub mod Hills
 pub mod Whole
 pub mod Promise

@@ -34,7 +34,7 @@ use Rattle.boundaries.specs.Joints.{jointsInside}
 use Rattle.boundaries.specs.Edges.{between, changed, loudBeside, pauseEdge, pauseEdges, voicingEdges}
 use Rattle.boundaries.specs.Minima.{minimum, inLongSpan, minima}
 use Rattle.boundaries.specs.Boundaries.{capOf, chosen, boundariesIn, creaky, boundariesOf}
-use Rattle.boundaries.specs.Promises.{RisesFrom, Reaches, Near, Promised, pausesAt, pausesIn, atMost}
+use Rattle.boundaries.specs.Promises.{RisesFrom, Reaches, Near, Promised, pausesAt, pausesIn, mostBoundaries}
 use Rattle.boundaries.proofs.Adding.{Far, Close, far-sym, add-append, add-each, add-some, add-few, add-pairs, add-near}
 use Rattle.boundaries.proofs.Turns.{In, pauses-in, voicings-in}
 use Rattle.boundaries.proofs.Jointly.{joints-in, inside-few}
@@ -199,7 +199,7 @@ module _ (db : List Float) (threshold : Float) where
 
 -- so the bound with pauses holds, and without the pauses too
 pub with-pauses : (db pitch voicing : List Float) (start end : ℕ) (nuclei : List ℕ) (p : Settings) → start + 2 < end →
-    length (boundariesOf db pitch voicing start end nuclei p) ≤ atMost (length nuclei) (length (pausesIn db (thresholdOf db p) start end))
+    length (boundariesOf db pitch voicing start end nuclei p) ≤ mostBoundaries (length nuclei) (length (pausesIn db (thresholdOf db p) start end))
 with-pauses db pitch voicing start end nuclei p wide = more _ _ _ (promised db pitch voicing start end nuclei p wide .few)
   where
     more : (a n k : ℕ) → a ≤ 4 * n + 2 → a ≤ 4 * n + 2 + 2 * (k - n)

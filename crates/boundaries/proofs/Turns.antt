@@ -24,7 +24,7 @@ use Rattle.smooth.specs.declared.extrema.Extremum.the-variants.{Min}
 use Rattle.smooth.proofs.Stretches.{extrema-rise}
 use Rattle.region.specs.Speech.{speechAt}
 use Rattle.runs.specs.Runs.{voiced}
-use Rattle.boundaries.specs.Taken.{Added}
+use Rattle.boundaries.specs.Taken.{AddedInTurn}
 use Rattle.boundaries.specs.Edges.{between, changed, jump, loudBeside, pauseEdge, pauseEdges, voicingEdge, voicingEdges}
 use Rattle.boundaries.specs.Minima.{prominenceAt, minimum, inLongSpan, minima}
 use Rattle.boundaries.proofs.Cells.{Trying, trying-some, trying-end}
@@ -57,12 +57,12 @@ frame-at (k ∷ keys) h (suc i) g = frame-at keys (h .1) i (less i (length keys)
     less i n g = omega arith
 
 module _ (keys : List ℕ) (i : ℕ) {cap : ℕ} {whole m₀ m : List ℕ} {c₀ c : ℕ} (t : Trying cap whole (map frameIn (drop i keys)) m₀ c₀ m c) where
-  pub keys-on : i < length keys → {f : ℕ} {m' : List ℕ} {c' : ℕ} → f ≡ frameIn (getD keys i 0) → Added cap (f ∷ []) m c m' c' → Trying cap whole (map frameIn (drop (i + 1) keys)) m₀ c₀ m' c'
+  pub keys-on : i < length keys → {f : ℕ} {m' : List ℕ} {c' : ℕ} → f ≡ frameIn (getD keys i 0) → AddedInTurn cap (f ∷ []) m c m' c' → Trying cap whole (map frameIn (drop (i + 1) keys)) m₀ c₀ m' c'
   keys-on h {f} {m'} {c'} e a =
       trying-some (subst (λ (rest : List ℕ). Trying cap whole rest m₀ c₀ m c) (ap (map frameIn) (drop-step keys i 0 h)) t)
-      (subst (λ (x : ℕ). Added cap (x ∷ []) m c m' c') e a)
+      (subst (λ (x : ℕ). AddedInTurn cap (x ∷ []) m c m' c') e a)
 
-  pub keys-end : length keys ≤ i → Added cap whole m₀ c₀ m c
+  pub keys-end : length keys ≤ i → AddedInTurn cap whole m₀ c₀ m c
   keys-end h = trying-end (subst (λ (rest : List ℕ). Trying cap whole rest m₀ c₀ m c) (ap (map frameIn) (drop-of-length-le keys h)) t)
 
 -- ---- the keys of frames strictly inside the region
@@ -222,8 +222,8 @@ module _ {cs : List Candidate} (k : Keyed cs) {old new : List ℕ} {m : ℕ} (l 
   pub turn-fits : Each (λ f. f ≤ 2048) (map frameIn (sorted (take m new)))
   turn-fits = subst (Each (λ f. f ≤ 2048)) (sym in-turn) (turn-each (λ f. f ≤ 2048) cs (k .within))
 
-  pub turn-added : {cap : ℕ} {a b : List ℕ} {c d : ℕ} → Added cap (map frameIn (sorted (take m new))) a c b d → Added cap (inTurn cs) a c b d
-  turn-added {cap} {a} {b} {c} {d} h = subst (λ (xs : List ℕ). Added cap xs a c b d) in-turn h
+  pub turn-added : {cap : ℕ} {a b : List ℕ} {c d : ℕ} → AddedInTurn cap (map frameIn (sorted (take m new))) a c b d → AddedInTurn cap (inTurn cs) a c b d
+  turn-added {cap} {a} {b} {c} {d} h = subst (λ (xs : List ℕ). AddedInTurn cap xs a c b d) in-turn h
 
 pub pauses-keyed : (db : List Float) (threshold : Float) (start end : ℕ) → end ≤ 2048 → Keyed (pauseEdges db threshold start end)
 pauses-keyed db threshold start end g = record {

@@ -23,12 +23,12 @@ use Rattle.smooth.specs.declared.extrema.Extremum.the-variants.{Min}
 use Rattle.smooth.proofs.Averages.{length-levels}
 use Rattle.region.specs.Speech.{speechAt, marked}
 use Rattle.region.specs.declared.Bounds.{Bounds}
-use Rattle.runs.specs.Runs.{Span, Within, spans, SpansLent, SpansListed}
+use Rattle.runs.specs.Runs.{Span, InTrack, spans, SpansLent, SpansListed}
 use Rattle.runs.specs.Syllables.{syllableRuns, dropouts}
 use Rattle.runs.proofs.Spacing.{spaced-within, syllable-spaced, syllable-few, dropout-wide}
 use Rattle.runs.proofs.Spans.{written, holds-within}
 use Rattle.boundaries.specs.Keeping.{addAll, ends}
-use Rattle.boundaries.specs.Taken.{Taken, Added, takenFrames, Spread}
+use Rattle.boundaries.specs.Taken.{Taken, AddedInTurn, takenFrames, Spread}
 use Rattle.boundaries.specs.Joints.{jointsInside}
 use Rattle.boundaries.specs.Edges.{pauseEdges, filled, creaks, inCreak, voicingEdges}
 use Rattle.boundaries.specs.Minima.{minimum, inLongSpan, minima}
@@ -76,7 +76,7 @@ minima-listed s skip m {kept₀} {kept} {marks} {mins₀} {mins} {keys₀} {keys
     ∙ ap (λ (xs : List ℕ). map keyOf (map (minimum s) (filter (λ i. inLongSpan (takenFrames m (length s)) i && not (skip i)) xs))) (listed-take l)) w
 
 -- tried on what is kept
-pub minima-added : (s : List Float) (skip : ℕ → Bool) {cap : ℕ} {m m' : List ℕ} {c c' : ℕ} → Added cap (inTurn (minima s skip (takenFrames m (length s)))) m c m' c' →
+pub minima-added : (s : List Float) (skip : ℕ → Bool) {cap : ℕ} {m m' : List ℕ} {c c' : ℕ} → AddedInTurn cap (inTurn (minima s skip (takenFrames m (length s)))) m c m' c' →
     (kept : List ℕ) → Each (λ x. x ≤ length s) kept → Once kept → Taken kept m c → Taken (addAll cap kept (inTurn (minima s skip (sorted kept)))) m' c'
 minima-added s skip {cap} {m} {m'} {c} {c'} a kept h o t =
     subst (λ (l : List ℕ). Taken (addAll cap kept (inTurn (minima s skip l))) m' c') (in-order kept m c (length s) t h o) (a .adds kept t)
@@ -145,11 +145,11 @@ module _ (db level pitch voicing : List Float) (b : Bounds) (dip : Float) (ns : 
 
 -- ---- the syllable runs that were written
 pub runs-ready : (pitch : List Float) (n : ℕ) → n ≡ length pitch → n ≤ 2048 → {first₀ first last₀ last : List ℕ} {k : ℕ} → SpansListed (syllableRuns pitch) first₀ first last₀ last k →
-    SpansLent (take k first) (take k last) × Within n (spans (take k first) (take k last))
+    SpansLent (take k first) (take k last) × InTrack n (spans (take k first) (take k last))
 runs-ready pitch n e h {first₀} {first} {last₀} {last} {k} l =
     let w = written (syllableRuns pitch) l in (
       (w .firsts-many ∙ sym (w .lasts-many), omega (arith, w .firsts-many, syllable-few pitch)),
-      subst (λ (m : ℕ). Within m (spans (take k first) (take k last))) (sym e) (holds-within (length pitch) w (spaced-within 0 (length pitch) (syllableRuns pitch) (syllable-spaced pitch))),
+      subst (λ (m : ℕ). InTrack m (spans (take k first) (take k last))) (sym e) (holds-within (length pitch) w (spaced-within 0 (length pitch) (syllableRuns pitch) (syllable-spaced pitch))),
     )
 
 -- the level that was written

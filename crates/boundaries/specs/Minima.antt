@@ -1,29 +1,27 @@
 -- Minima of the level inside long spans, and how prominent they are. Definitions only.
-use Prim.Native.Nat.{ℕ, zero, suc, _+_, _-_}
-use mathlib.Core.Bool.{Bool, false, not, _&&_, _||_, cond}
+use Prim.Native.Nat.{ℕ, _+_, _-_}
+use mathlib.Core.Bool.{Bool, false, not, _&&_, _||_}
 use mathlib.Core.List.{List, [], _∷_, map}
 use lib.ListN.{length}
 use lib.Dec.{ltb}
 use lib.Ieee.{Float, binary32, sub, le}
 use Rattle.lists.specs.Results.{filter}
 use Rattle.lists.specs.Candidates.{Candidate}
-use Rattle.lists.specs.Frames.{at}
+use Rattle.lists.specs.Frames.{at, firstFrame, lastFrame}
 use Rattle.smooth.specs.Extrema.{lower, inside, localExtrema}
 use Rattle.smooth.specs.declared.extrema.Extremum.the-variants.{Min}
 
 -- the top of the hill on the left of frame i: as far as the level does not fall on the way
-unfoldable pub climbLeft : List Float → ℕ → ℕ
-climbLeft s zero = zero
-climbLeft s (suc i) = cond (le (at s (suc i)) (at s i)) (climbLeft s i) (suc i)
+abbrev pub climbLeft : List Float → ℕ → ℕ
+climbLeft s = lastFrame (λ j. not (le (at s j) (at s (j - 1))))
 
 -- the top of the hill on the right of frame i, at most k frames on
-unfoldable pub climbRight : List Float → ℕ → ℕ → ℕ
-climbRight s i zero = i
-climbRight s i (suc k) = cond (le (at s i) (at s (i + 1))) (climbRight s (i + 1) k) i
+abbrev pub climbRight : List Float → ℕ → ℕ → ℕ
+climbRight s = firstFrame (λ j. not (le (at s j) (at s (j + 1))))
 
 -- the prominence of frame i: the level on the lower of its two hills, less its own
 unfoldable pub prominenceAt : List Float → ℕ → Float
-prominenceAt s i = sub binary32 (lower (at s (climbLeft s i)) (at s (climbRight s i (length s - (i + 1))))) (at s i)
+prominenceAt s i = sub binary32 (lower (at s (climbLeft s i)) (at s (climbRight s i (length s - 1 - i)))) (at s i)
 
 -- a minimum weighs its prominence
 abbrev pub minimum : List Float → ℕ → Candidate

@@ -43,5 +43,5 @@ abbrev pub pausesIn : List Float → Float → ℕ → ℕ → List Span
 pausesIn db threshold start end = pausesAt db threshold (between start end (changed (speechAt threshold db)))
 
 -- 4 a nucleus, 2 more, and twice as many as the pauses outnumber the nuclei
-abbrev pub atMost : ℕ → ℕ → ℕ
-atMost nuclei pauses = 4 * nuclei + 2 + 2 * (pauses - nuclei)
+abbrev pub mostBoundaries : ℕ → ℕ → ℕ
+mostBoundaries nuclei pauses = 4 * nuclei + 2 + 2 * (pauses - nuclei)

@@ -26,7 +26,7 @@ pub record Taken (kept m : List ℕ) (c : ℕ) : Type 0 where
   pub marks : (i : ℕ) → getD m i 0 ≡ cond (member (cells kept) i) 1 0
 
 -- whatever frames the marks held, they now hold those with each of a list added in turn
-pub record Added (cap : ℕ) (xs old : List ℕ) (c : ℕ) (new : List ℕ) (r : ℕ) : Type 0 where
+pub record AddedInTurn (cap : ℕ) (xs old : List ℕ) (c : ℕ) (new : List ℕ) (r : ℕ) : Type 0 where
   pub adds : (kept : List ℕ) → Taken kept old c → Taken (addAll cap kept xs) new r
 
 -- the frames up to n whose cells are marked, in order

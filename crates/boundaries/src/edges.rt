@@ -19,7 +19,7 @@ ghost use Rattle.lists.specs.Candidates.{keyOf, inTurn};
 ghost use Rattle.smooth.specs.Extrema.{inside};
 ghost use Rattle.region.specs.Speech.{speechAt, marked};
 ghost use Rattle.runs.specs.Runs.{voiced, spans};
-ghost use Rattle.boundaries.specs.Taken.{Added, Spread};
+ghost use Rattle.boundaries.specs.Taken.{AddedInTurn, Spread};
 ghost use Rattle.boundaries.specs.Edges.{changed, jump, loudBeside, pauseEdge, pauseEdges, filled, inCreak, voicingEdge, voicingEdges};
 ghost use Rattle.boundaries.specs.Boundaries.{creaky};
 
@@ -87,8 +87,8 @@ fn pause_keys(db: &[f32], threshold: f32, start: usize, end: usize, out: &mut [u
 // Tries the edges of pauses inside the region, that of the greatest jump first, the earlier of equal ones.
 pub fn add_pauses(db: &[f32], b: Bounds, taken: &mut [u8; 2053], count: usize, cap: usize) -> usize
     requires { ⌜ (b .start ≤ b .end) × (b .end ≤ length (now db)) × (length (now db) ≤ 2048) ⌝ }
-    ensures { λ r. ⌜ Added cap (inTurn (pauseEdges (now (db .entry)) (b .threshold) (b .start) (b .end))) (now (taken .entry))
-        count (now (taken .exit)) r ⌝ }
+    ensures { λ r. ⌜ AddedInTurn cap (inTurn (pauseEdges (now (db .entry)) (b .threshold) (b .start) (b .end)))
+        (now (taken .entry)) count (now (taken .exit)) r ⌝ }
 {
     let mut keys = blank_keys();
     let m = pause_keys(db, b.threshold, b.start, b.end, &mut keys);
@@ -219,7 +219,7 @@ pub fn add_voicings(
 ) -> usize
     requires { ⌜ (b .start ≤ b .end) × (b .end ≤ length (now pitch)) × (length (now pitch) ≤ 2048)
         × (length (now voicing) ≡ length (now pitch)) ⌝ }
-    ensures { λ r. ⌜ Added cap (inTurn
+    ensures { λ r. ⌜ AddedInTurn cap (inTurn
         (voicingEdges (now (pitch .entry)) (now (voicing .entry)) (marked (now (skip .entry))) (b .start) (b .end)))
         (now (taken .entry)) count (now (taken .exit)) r ⌝ }
 {

@@ -13,9 +13,9 @@ ghost use lib.ListN.{length};
 ghost use Rattle.lists.specs.Results.{filter};
 ghost use Rattle.lists.specs.Sorted.{StrictlyRises};
 ghost use Rattle.smooth.specs.Extrema.{argminMiddle};
-ghost use Rattle.runs.specs.Runs.{spans, SpansLent, Within};
+ghost use Rattle.runs.specs.Runs.{spans, SpansLent, InTrack};
 ghost use Rattle.runs.specs.Syllables.{syllableRuns};
-ghost use Rattle.boundaries.specs.Taken.{Added, jointFrames};
+ghost use Rattle.boundaries.specs.Taken.{AddedInTurn, jointFrames};
 ghost use Rattle.boundaries.specs.Joints.{joint, inner, jointsInside};
 
 // A joint of two nuclei: the frame of the lowest level between them, or both edges of the pitch break.
@@ -35,7 +35,7 @@ fn lowest_joint(level: &[f32], a: u32, b: u32) -> Joint
 // The joint of the nuclei a and b, given the syllable runs.
 fn joint_of(level: &[f32], first: &[u32], last: &[u32], dip: f32, a: u32, b: u32) -> Joint
     requires { ⌜ (a ≤ b) × (b < length (now level)) × (length (now level) ≤ 2048) ⌝ }
-    requires { ⌜ SpansLent (now first) (now last) × Within (length (now level)) (spans (now first) (now last)) ⌝ }
+    requires { ⌜ SpansLent (now first) (now last) × InTrack (length (now level)) (spans (now first) (now last)) ⌝ }
     ensures { λ r. ⌜ jointFrames r ≡ joint (now (level .entry)) (spans (now (first .entry)) (now (last .entry))) dip a b ⌝ }
 {
     let Found::At(x, _, l) = run_of(first, last, a) else {
@@ -62,7 +62,7 @@ fn add_inside(
     cap: usize,
 ) -> usize
     requires { ⌜ end ≤ 2048 ⌝ }
-    ensures { λ r. ⌜ Added cap (filter (inner start end) (at ∷ [])) (now (taken .entry)) count (now (taken .exit)) r ⌝ }
+    ensures { λ r. ⌜ AddedInTurn cap (filter (inner start end) (at ∷ [])) (now (taken .entry)) count (now (taken .exit)) r ⌝ }
 {
     let i = at as usize;
     if start < i {
@@ -83,7 +83,8 @@ fn add_joint(
     cap: usize,
 ) -> usize
     requires { ⌜ end ≤ 2048 ⌝ }
-    ensures { λ r. ⌜ Added cap (filter (inner start end) (jointFrames j)) (now (taken .entry)) count (now (taken .exit)) r ⌝ }
+    ensures { λ r. ⌜ AddedInTurn cap (filter (inner start end) (jointFrames j)) (now (taken .entry)) count
+        (now (taken .exit)) r ⌝ }
 {
     match j {
         Joint::Lowest(m) => add_inside(m, start, end, taken, count, cap),
@@ -107,9 +108,9 @@ fn add_joints_over(
     cap: usize,
 ) -> usize
     requires { ⌜ (b .end ≤ 2048) × (length (now level) ≤ 2048) × StrictlyRises 0 (length (now level)) (now nuclei) ⌝ }
-    requires { ⌜ SpansLent (now first) (now last) × Within (length (now level)) (spans (now first) (now last)) ⌝ }
-    ensures { λ r. ⌜ Added cap (jointsInside (now (level .entry)) (spans (now (first .entry)) (now (last .entry))) dip (b .start)
-        (b .end) (now (nuclei .entry))) (now (taken .entry)) count (now (taken .exit)) r ⌝ }
+    requires { ⌜ SpansLent (now first) (now last) × InTrack (length (now level)) (spans (now first) (now last)) ⌝ }
+    ensures { λ r. ⌜ AddedInTurn cap (jointsInside (now (level .entry)) (spans (now (first .entry)) (now (last .entry))) dip
+        (b .start) (b .end) (now (nuclei .entry))) (now (taken .entry)) count (now (taken .exit)) r ⌝ }
 {
     let mut n = count;
     let mut i: usize = 0;
@@ -134,8 +135,8 @@ pub fn add_joints(
 ) -> usize
     requires { ⌜ (b .end ≤ 2048) × (length (now level) ≤ 2048) × StrictlyRises 0 (length (now level)) (now nuclei)
         × (length (now level) ≡ length (now pitch)) ⌝ }
-    ensures { λ r. ⌜ Added cap (jointsInside (now (level .entry)) (syllableRuns (now (pitch .entry))) dip (b .start) (b .end)
-        (now (nuclei .entry))) (now (taken .entry)) count (now (taken .exit)) r ⌝ }
+    ensures { λ r. ⌜ AddedInTurn cap (jointsInside (now (level .entry)) (syllableRuns (now (pitch .entry))) dip (b .start)
+        (b .end) (now (nuclei .entry))) (now (taken .entry)) count (now (taken .exit)) r ⌝ }
 {
     let mut first = [0u32; 2048];
     let mut last = [0u32; 2048];

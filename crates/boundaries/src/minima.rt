@@ -5,6 +5,7 @@ use super::taken::put_taken;
 use lists::candidates::key_of;
 use smooth::extrema::Extremum;
 use smooth::extrema::local_extrema;
+use smooth::extrema::lower;
 ghost use mathlib.Core.Path.{_≡_};
 ghost use mathlib.Core.Bool.{not, _&&_};
 ghost use mathlib.Core.List.{List, map};
@@ -15,7 +16,6 @@ ghost use Rattle.lists.specs.By.{Each};
 ghost use Rattle.lists.specs.Marks.{Once};
 ghost use Rattle.lists.specs.Sorted.{StrictlyRises, sorted};
 ghost use Rattle.lists.specs.Candidates.{keyOf, inTurn};
-ghost use Rattle.smooth.specs.Extrema.{lower};
 ghost use Rattle.region.specs.Speech.{marked};
 ghost use Rattle.boundaries.specs.Keeping.{addAll};
 ghost use Rattle.boundaries.specs.Taken.{Taken, Spread};
@@ -43,7 +43,7 @@ fn climb_left(level: &[f32], i: usize) -> usize
 // The top of the hill on the right of frame i, across flat stretches; where the track ends at the latest.
 fn climb_right(level: &[f32], i: usize) -> usize
     requires { ⌜ i < length (now level) ⌝ }
-    ensures { λ r. ⌜ (r ≡ climbRight (now (level .entry)) i (length (now (level .entry)) - (i + 1)))
+    ensures { λ r. ⌜ (r ≡ climbRight (now (level .entry)) i (length (now (level .entry)) - 1 - i))
         × (r < length (now (level .entry))) ⌝ }
 {
     let mut r = i;
@@ -55,13 +55,6 @@ fn climb_right(level: &[f32], i: usize) -> usize
         }
     }
     r
-}
-
-// The lower of two values, the first where they are equal.
-fn lower(x: f32, y: f32) -> f32
-    ensures { λ r. ⌜ r ≡ lower x y ⌝ }
-{
-    if y < x { y } else { x }
 }
 
 // The prominence of frame i: the level on the lower of its two hills, less its own.

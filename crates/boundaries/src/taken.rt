@@ -10,7 +10,7 @@ ghost use Rattle.lists.specs.By.{Each};
 ghost use Rattle.lists.specs.Sorted.{sorted};
 ghost use Rattle.lists.specs.Candidates.{frameIn};
 ghost use Rattle.boundaries.specs.Keeping.{ends};
-ghost use Rattle.boundaries.specs.Taken.{keptNear, Taken, Added, takenFrames};
+ghost use Rattle.boundaries.specs.Taken.{keptNear, Taken, AddedInTurn, takenFrames};
 
 // A byte as a u32.
 fn wide(x: u8) -> u32
@@ -35,7 +35,7 @@ fn near(taken: &[u8; 2053], at: usize) -> u32
 // returns how many are kept then.
 pub fn try_add(at: u32, taken: &mut [u8; 2053], count: usize, cap: usize) -> usize
     requires { ⌜ at ≤ 2048 ⌝ }
-    ensures { λ r. ⌜ Added cap (at ∷ []) (now (taken .entry)) count (now (taken .exit)) r ⌝ }
+    ensures { λ r. ⌜ AddedInTurn cap (at ∷ []) (now (taken .entry)) count (now (taken .exit)) r ⌝ }
 {
     let i = at as usize;
     if count < cap {
@@ -50,7 +50,7 @@ pub fn try_add(at: u32, taken: &mut [u8; 2053], count: usize, cap: usize) -> usi
 // Tries the frames of keys in turn.
 fn add_keys(keys: &[u64], taken: &mut [u8; 2053], count: usize, cap: usize) -> usize
     requires { ⌜ Each (λ f. f ≤ 2048) (map frameIn (now keys)) ⌝ }
-    ensures { λ r. ⌜ Added cap (map frameIn (now (keys .entry))) (now (taken .entry)) count (now (taken .exit)) r ⌝ }
+    ensures { λ r. ⌜ AddedInTurn cap (map frameIn (now (keys .entry))) (now (taken .entry)) count (now (taken .exit)) r ⌝ }
 {
     let mut n = count;
     let mut i: usize = 0;
@@ -70,7 +70,8 @@ pub fn add_sorted(
     cap: usize,
 ) -> usize
     requires { ⌜ (length (now keys) ≤ length (now room)) × Each (λ f. f ≤ 2048) (map frameIn (sorted (now keys))) ⌝ }
-    ensures { λ r. ⌜ Added cap (map frameIn (sorted (now (keys .entry)))) (now (taken .entry)) count (now (taken .exit)) r ⌝ }
+    ensures { λ r. ⌜ AddedInTurn cap (map frameIn (sorted (now (keys .entry)))) (now (taken .entry)) count
+        (now (taken .exit)) r ⌝ }
 {
     sort(keys, room);
     add_keys(keys, taken, count, cap)

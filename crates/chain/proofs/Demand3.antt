@@ -24,7 +24,7 @@ use Rattle.boundaries.specs.Boundaries.{boundariesOf}
 use Rattle.boundaries.proofs.Promise.{promised, with-pauses, reaches-apart, reaches-few}
 use Rattle.chain.specs.declared.Marks.{Marks}
 use Rattle.chain.specs.Chain.{Take, Reading, Lists, LeftOf, Left, pitchesOf, readingIn, readingOf, unmarked, answered, nothing, counted, written, asLent, readingBy, answerBy, refusalFor, refusalOf, leftBy, leaves, chainOf}
-use Rattle.chain.specs.Promises.{scaled, Returned, returnedIn, returned, Kept, Ordered, Demanded}
+use Rattle.chain.specs.Promises.{scaled, Returned, returnedIn, returned, BoundariesKept, Ordered, Demanded}
 use Rattle.chain.proofs.Marking.{framed, nothing-written}
 
 -- ---- a take times a whole number
@@ -54,7 +54,7 @@ module _ (t : Take) (pitch : List Float) where
   abbrev told : Region → Returned
   told r = let m = readingIn (t .db) pitch (t .voiced) (t .sonority) (t .settings) r in readOff (answered m) m
 
-  in-region : (r : Region) → regionOf (t .db) (t .settings) ≡ r → told r .answer .found ≡ true → Kept t (told r)
+  in-region : (r : Region) → regionOf (t .db) (t .settings) ≡ r → told r .answer .found ≡ true → BoundariesKept t (told r)
   in-region Nowhere e f = absurd (false≢true f)
   in-region (Span start end) e f =
       let ns = framesOf (nucleiOf (t .db) pitch start end (t .settings)) in
@@ -90,7 +90,7 @@ module _ (t : Take) where
   abbrev pub returnedBy : ℕ → Returned
   returnedBy number = readOff (answerBy t number) (readingBy t number)
 
-  pub kept-by : (number : ℕ) → returnedBy number .answer .found ≡ true → Kept t (returnedBy number)
+  pub kept-by : (number : ℕ) → returnedBy number .answer .found ≡ true → BoundariesKept t (returnedBy number)
   unfolding readingBy answerBy readingOf
   kept-by zero f = in-region t (pitchesOf t) (regionOf (t .db) (t .settings)) refl f
   kept-by (suc k) f = absurd (false≢true f)
@@ -166,7 +166,7 @@ module _ {L : Type 0} (written : Reading → L → L) (l : L) where
         let number : read o .answer .refusal ≡ n = ap (λ (x : Returned). x .answer .refusal) r ∙ number-by t n in
         record {
           alike = λ k nonzero other p. p ∙ left-scaled k nonzero t (refusal (scaled k t)) ∙ ap (leaves written t l) (number-alike k t) ∙ sym e;
-          kept = λ f. subst (Kept t) (sym r) (kept-by t n (sym (ap (λ (x : Returned). x .answer .found) r) ∙ f));
+          kept = λ f. subst (BoundariesKept t) (sym r) (kept-by t n (sym (ap (λ (x : Returned). x .answer .found) r) ∙ f));
           ordered = subst (Ordered t) (sym r) (ordered-by t n);
           refused = λ some. e ∙ left-refused t n (λ z. some (number ∙ z)) ∙ ap (asLent t l) (sym number);
         }

@@ -12,7 +12,7 @@ use Rattle.smooth.specs.Level.{levels}
 use Rattle.region.specs.Speech.{thresholdOf}
 use Rattle.runs.specs.Syllables.{syllableRuns}
 use Rattle.boundaries.specs.Joints.{jointsInside}
-use Rattle.boundaries.specs.Promises.{Promised, pausesIn, atMost}
+use Rattle.boundaries.specs.Promises.{Promised, pausesIn, mostBoundaries}
 use Rattle.chain.specs.declared.Marks.{Marks}
 use Rattle.chain.specs.Chain.{Take, takeOf, LeftOf, Lists, Left}
 
@@ -50,9 +50,9 @@ abbrev pub pauses : Take → Returned → ℕ
 pauses t r = length (pausesIn (t .db) (thresholdOf (t .db) (t .settings)) (r .answer .start) (r .answer .end))
 
 -- they rise from the region's start to its end, each joint has one within 2 frames, and they are few: 4 for each nucleus and 2, and so by the pauses too
-pub record Kept (t : Take) (r : Returned) : Type 0 where
+pub record BoundariesKept (t : Take) (r : Returned) : Type 0 where
   pub promised : Promised (r .answer .start) (r .answer .end) (r .nuclei) (jointsOf t r) (r .boundaries)
-  pub few : length (r .boundaries) ≤ atMost (length (r .nuclei)) (pauses t r)
+  pub few : length (r .boundaries) ≤ mostBoundaries (length (r .nuclei)) (pauses t r)
 
 -- ---- order, in every call
 -- the region lies in the take; nuclei rise in the region, extras and their edges in the take; any two boundaries are over 2 frames apart; each list
@@ -73,7 +73,7 @@ pub record Demanded {O : Type 0} (call : Take → O) (read : O → Returned) (as
   -- the take times a whole number other than 0 is answered alike, and all is left alike
   pub alike : (k : ℤ) → (k ≡ pos 0 → ⊥) → (other : O) → other ≡ call (scaled k t) → other ≡ o
   -- where a region is found, its boundaries keep their promises
-  pub kept : read o .answer .found ≡ true → Kept t (read o)
+  pub kept : read o .answer .found ≡ true → BoundariesKept t (read o)
   -- what is returned is in order
   pub ordered : Ordered t (read o)
   -- a refused call leaves all that was lent

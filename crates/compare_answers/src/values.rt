@@ -25,7 +25,8 @@ use powers::pitch::is_pitch;
 use powers::pitch::octave_of;
 use powers::pitch::within_step;
 ghost use mathlib.Core.Path.{_≡_};
-ghost use Rattle.powers.specs.Pitch.{isBetween};
+ghost use Rattle.floats.specs.Plain.{isBetween};
+ghost use Rattle.powers.specs.Pitch.{hz};
 
 // The samples of a window, and the lags at which its periodicity is asked for: from 1 on.
 const WINDOW: usize = 512;
@@ -37,9 +38,9 @@ const NO_PITCH: u64 = 255;
 
 // Whether p is within the range of the estimates.
 fn is_estimate(p: f64) -> bool
-    ensures { λ r. ⌜ r ≡ isBetween 60 600 p ⌝ }
+    ensures { λ r. ⌜ r ≡ isBetween (hz 60) (hz 600) p ⌝ }
 {
-    if 60.0 <= p { p <= 600.0 } else { false }
+    60.0 <= p && p <= 600.0
 }
 
 fn step_of(p: f64, q: f64) -> u64 {

@@ -33,10 +33,6 @@ abbrev pub heavier : (ℕ → Float) → Cut → ℕ → Cut
 heavier weight Uncut k = Before k
 heavier weight (Before j) k = cond (le (weight j) (weight k)) (Before k) (Before j)
 
--- of some frames, in order, the one that weighs most, the later on a tie
-abbrev pub heaviest : (ℕ → Float) → List ℕ → Cut
-heaviest weight ks = foldl (heavier weight) Uncut ks
-
 -- where a run that holds one nucleus splits: before the frame of the largest change, the later on a tie
 unfoldable pub splitOf : List Float → Span → ℕ → Cut
-splitOf son r nucleus = heaviest (change son) (keep (maySplit son r nucleus) (r .first) (r .last + 1 - r .first))
+splitOf son r nucleus = foldl (heavier (change son)) Uncut (keep (maySplit son r nucleus) (r .first) (r .last + 1 - r .first))

@@ -5,7 +5,7 @@ use mathlib.Core.List.{List}
 use lib.Ieee.{Float, le}
 use Rattle.floats.specs.Plain.{half}
 use Rattle.lists.specs.Results.{filter}
-use Rattle.smooth.specs.Level.{window, meanOf}
+use Rattle.smooth.specs.Level.{fiveAround, meanOf}
 use Rattle.smooth.specs.Extrema.{localExtrema}
 use Rattle.smooth.specs.declared.extrema.Extremum.the-variants.{Max}
 use Rattle.region.specs.declared.Bounds.{Bounds}
@@ -13,7 +13,7 @@ use Rattle.nuclei.specs.Peaks.{pitchNear, speechByLevel}
 
 -- frame i sounds like a vowel: averaged up to 2 frames to each side, the sonority is 0.5 or more
 unfoldable pub vowelLike : List Float → ℕ → Bool
-vowelLike son i = le half (meanOf (window son i))
+vowelLike son i = le half (meanOf (fiveAround son i))
 
 -- the test that a peak of the level passes: speech, no pitch within 2 frames, and vowel-like
 unfoldable pub unpitched : List Float → List Float → List Float → Bounds → ℕ → Bool

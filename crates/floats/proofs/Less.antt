@@ -1,14 +1,32 @@
--- The strict order of floats: what is below something that is below a third is below the third, and what is not below a number is no lower than it. Assumes nothing.
-use Prim.Native.Nat.{ℕ, _+_, _*_, _<_}
+-- The order of whole numbers, and the strict order of floats: what is below something that is below a third is below the third, and what is not below a number is no lower than it.
+-- Assumes nothing.
+use Prim.Native.Nat.{ℕ, _+_, _*_, _≤_, _<_}
 use native.Mathlib.Nat.{le-refl, mul-lt-mul-of-pos-right, mul-le-mul-right, mul-right-comm, add-mul, zero-mul}
 use native.Mathlib.Omega.{arith}
 use mathlib.Core.Path.{_≡_, refl, sym, ap, ap₂, _∙_}
 use mathlib.Core.Bool.{Bool, true, false, true≢false, false≢true}
-use borrow.Author.Tests.{ltb-true, ltb-false, lt-ltb, le-ltb}
-use lib.Dec.{ltb}
+use mathlib.Core.Logic.{_⊎_, inl, inr}
+use borrow.Author.Tests.{leb-true, leb-false, ltb-true, ltb-false, lt-ltb, le-ltb}
+use lib.Dec.{leb, ltb}
 use lib.IntN.{ℤ}
 use lib.Ieee.{Float, nan, inf, fin, up, down, below, lt, isNan}
 use lib.Ieee.Fits.{down-pos}
+
+-- ---- whole numbers
+pub le-or-lt : (a b : ℕ) → (a ≤ b) ⊎ (b < a)
+le-or-lt a b = go (leb a b) refl
+  where
+    go : (t : Bool) → leb a b ≡ t → (a ≤ b) ⊎ (b < a)
+    go true e = inl (leb-true a b e)
+    go false e = inr (leb-false a b e)
+
+-- both are k times as large
+pub ltb-scale : (a b k : ℕ) → 0 < k → ltb (a * k) (b * k) ≡ ltb a b
+ltb-scale a b k h = go (ltb a b) refl
+  where
+    go : (t : Bool) → ltb a b ≡ t → ltb (a * k) (b * k) ≡ ltb a b
+    go true e = lt-ltb (a * k) (b * k) (mul-lt-mul-of-pos-right (ltb-true a b e) h) ∙ sym e
+    go false e = le-ltb (a * k) (b * k) (mul-le-mul-right k (ltb-false a b e)) ∙ sym e
 
 -- ---- signs and sizes
 below-trans : (s : Bool) (a : ℕ) (t : Bool) (b : ℕ) (u : Bool) (c : ℕ) → below s a t b ≡ true → below t b u c ≡ true → below s a u c ≡ true
@@ -28,14 +46,6 @@ below-from true a false b false c p q = lt-ltb b c (omega (arith, ltb-false 0 (a
 below-from true a false b true c p q = absurd (omega (arith, ltb-false 0 (a + b) p, ltb-true c a q))
 below-from true a true b false c p q = lt-ltb 0 (b + c) (omega (arith, ltb-false b a p, ltb-true 0 (a + c) q))
 below-from true a true b true c p q = lt-ltb c b (omega (arith, ltb-false b a p, ltb-true c a q))
-
--- both sizes are k times as large
-pub ltb-scale : (a b k : ℕ) → 0 < k → ltb (a * k) (b * k) ≡ ltb a b
-ltb-scale a b k h = go (ltb a b) refl
-  where
-    go : (t : Bool) → ltb a b ≡ t → ltb (a * k) (b * k) ≡ ltb a b
-    go true e = lt-ltb (a * k) (b * k) (mul-lt-mul-of-pos-right (ltb-true a b e) h) ∙ sym e
-    go false e = le-ltb (a * k) (b * k) (mul-le-mul-right k (ltb-false a b e)) ∙ sym e
 
 below-scaled : (s : Bool) (a : ℕ) (t : Bool) (b k : ℕ) → 0 < k → below s a t b ≡ below s (a * k) t (b * k)
 below-scaled false a false b k h = sym (ltb-scale a b k h)

@@ -6,12 +6,13 @@ use mathlib.Core.Bool.{Bool, true, false, not, cond, false≢true}
 use Prim.Native.Nat.{ℕ, _+_, _-_, _*_, _≤_, _<_}
 use native.Mathlib.Nat.{le-refl, le-trans, le-of-lt, le-antisymm, zero-add}
 use native.Mathlib.Omega.{arith}
-use lib.Dec.{T, leb, lit<, lit≤}
+use lib.Dec.{T, lit<, lit≤}
 use borrow.Author.Tests.{le-leb, lt-leb, leb-true, leb-false, ltb-true}
 use lib.IntN.{ℤ, pos}
 use lib.Ieee.{Float, nan, inf, fin, binary32, up, down, lt, fits, isNan, toBits, ofBits}
 use lib.Ieee.Bits.{ofBits-toBits, toBits-ofBits, toBits-lt}
 use Rattle.floats.specs.Total.{placed, totalKey, unplaced, valueOf, before}
+use Rattle.floats.proofs.Less.{le-or-lt}
 use Rattle.floats.proofs.Pattern.{pattern, inUnits, finite-bits, pattern-lt, rise}
 
 -- ---- a pattern's place and the pattern at a place
@@ -27,36 +28,29 @@ unplaced-high k h = ap (λ (t : Bool). cond t (k - 2147483648) (4294967295 - k))
 pub unplaced-low : (k : ℕ) → k < 2147483648 → unplaced k ≡ 4294967295 - k
 unplaced-low k h = ap (λ (t : Bool). cond t (k - 2147483648) (4294967295 - k)) (lt-leb 2147483648 k h)
 
-side : (n : ℕ) → (2147483648 ≤ n) ⊎ (n < 2147483648)
-side n = go (leb 2147483648 n) refl
-  where
-    go : (t : Bool) → leb 2147483648 n ≡ t → (2147483648 ≤ n) ⊎ (n < 2147483648)
-    go true e = inl (leb-true 2147483648 n e)
-    go false e = inr (leb-false 2147483648 n e)
-
 placed-lt : (b : ℕ) → b < 4294967296 → placed b < 4294967296
-placed-lt b h = go (side b)
+placed-lt b h = go (le-or-lt 2147483648 b)
   where
     go : (2147483648 ≤ b) ⊎ (b < 2147483648) → placed b < 4294967296
     go (inl l) = omega (arith, placed-high b l)
     go (inr l) = omega (arith, placed-low b l)
 
 unplaced-placed : (b : ℕ) → b < 4294967296 → unplaced (placed b) ≡ b
-unplaced-placed b h = go (side b)
+unplaced-placed b h = go (le-or-lt 2147483648 b)
   where
     go : (2147483648 ≤ b) ⊎ (b < 2147483648) → unplaced (placed b) ≡ b
     go (inl l) = ap unplaced (placed-high b l) ∙ unplaced-low (4294967295 - b) (omega arith) ∙ omega arith
     go (inr l) = ap unplaced (placed-low b l) ∙ unplaced-high (2147483648 + b) (omega arith) ∙ omega arith
 
 placed-unplaced : (k : ℕ) → k < 4294967296 → placed (unplaced k) ≡ k
-placed-unplaced k h = go (side k)
+placed-unplaced k h = go (le-or-lt 2147483648 k)
   where
     go : (2147483648 ≤ k) ⊎ (k < 2147483648) → placed (unplaced k) ≡ k
     go (inl l) = ap placed (unplaced-high k l) ∙ placed-low (k - 2147483648) (omega arith) ∙ omega arith
     go (inr l) = ap placed (unplaced-low k l) ∙ placed-high (4294967295 - k) (omega arith) ∙ omega arith
 
 unplaced-lt : (k : ℕ) → k < 4294967296 → unplaced k < 4294967296
-unplaced-lt k h = go (side k)
+unplaced-lt k h = go (le-or-lt 2147483648 k)
   where
     go : (2147483648 ≤ k) ⊎ (k < 2147483648) → unplaced k < 4294967296
     go (inl l) = omega (arith, unplaced-high k l)

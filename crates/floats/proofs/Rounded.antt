@@ -2,19 +2,44 @@
 use mathlib.Core.Path.{_≡_, refl, sym, ap, _∙_, subst}
 use mathlib.Core.Bool.{Bool, true, false, not, _&&_, cond}
 use Prim.Native.Nat.{ℕ, zero, suc, _+_, _-_, _*_, _/_, _%_, _^_, _≤_, _<_}
-use native.Mathlib.Nat.{le-trans, le-of-eq, le-of-suc-le-suc, lt-of-not-le, not-le-of-lt, mul-one, mul-comm, mul-assoc, mul-right-comm, mul-le-mul-right, mul-lt-mul-of-pos-right, zero-mul}
-use lib.Dec.{T, leb, ltb, eqb, leb→le, ltb→lt}
+use native.Mathlib.Nat.{le-trans, le-of-eq, le-of-suc-le-suc, lt-of-not-le, not-le-of-lt, mul-one, mul-comm, mul-assoc, mul-right-comm, mul-le-mul-right, mul-lt-mul-of-pos-right, mul-pos, zero-mul}
+use native.Mathlib.Omega.{arith}
+use lib.Dec.{T, leb, ltb, eqb, leb→le, ltb→lt, eqb→eq}
 use lib.IntN.{ℤ, pos, negsuc}
 use lib.Pow.{pow-add, pow-pos, pow-lt}
 use lib.Ieee.{Float, nan, inf, fin, Format, binary32, prec, emax, low, up, down, odd, units, round, fits, isNan}
 use lib.Ieee.Digits.{back}
 use lib.Ieee.Exact.{round-exact}
-use lib.Ieee.Fits.{and-l, and-r, down-pos, round-fits, nan-fits, inf-fits}
+use lib.Ieee.Fits.{and-l, and-r, up-pos, down-pos, round-fits, nan-fits, inf-fits}
 use lib.Ieee.Nearest.{closest}
 use Rattle.floats.specs.Narrow.{narrow}
 use Rattle.floats.proofs.Pattern.{dropped, round-units, same-value}
 
--- ---- a value that the format holds is m * 2 ^ places of the smallest ones
+-- ---- what the format asks of a finite value: few digits, none of them finer than its smallest value, and a size below infinity's
+pub record Held (f : Format) (m : ℕ) (e : ℤ) : Type 0 where
+  pub digits : m < 2 ^ prec f
+  pub finest : down e ≤ 2 ^ low f
+  pub size : m * up e < 2 ^ suc (emax f) * down e
+
+pub held : (f : Format) (s : Bool) (m : ℕ) (e : ℤ) → T (fits f (fin s m e)) → Held f m e
+unfolding fits
+held f s zero e h = record {
+  digits = pow-pos (prec f);
+  finest = omega (arith, eqb→eq (up e * down e) 1 h, mul-le-mul-right (down e) (up-pos e), pow-pos (low f));
+  size = rw (zero-mul (up e)) (mul-pos (pow-pos (suc (emax f))) (down-pos e));
+}
+held f s (suc m) e h =
+    let A = eqb (suc m % 2) 1 in
+    let B = ltb (suc m) (2 ^ prec f) in
+    let C = leb (down e) (2 ^ low f) in
+    let D = ltb (suc m * up e) (2 ^ suc (emax f) * down e) in
+    record {
+      digits = ltb→lt (suc m) (2 ^ prec f) (and-r A B (and-l (A && B) C (and-l (A && B && C) D h)));
+      finest = leb→le (down e) (2 ^ low f) (and-r (A && B) C (and-l (A && B && C) D h));
+      size = ltb→lt (suc m * up e) (2 ^ suc (emax f) * down e) (and-r (A && B && C) D h);
+    }
+
+-- ---- it is m * 2 ^ places of the smallest ones
 abbrev places : Format → ℤ → ℕ
 places f (pos k) = k + low f
 places f (negsuc k) = low f - suc k
@@ -40,21 +65,10 @@ in-range f m e h l =
 
 -- ---- so `round` changes nothing there
 pub round-keeps : (f : Format) (s : Bool) (m : ℕ) (e : ℤ) → T (fits f (fin s m e)) → round f s (m * up e) (down e) ≡ fin s m e
-unfolding fits
-round-keeps f s zero e h =
-    same-value f (round f s (0 * up e) (down e)) (fin s 0 e) s (0 * up e) (down e) (down-pos e) (round-fits f s (0 * up e) (down e)) h
-    (round-exact f s (0 * up e) (down e) 0 0 (down-pos e) (pow-pos (prec f)) (pow-pos (low f + suc (emax f))) (simp zero-mul))
-    (refl, refl)
-round-keeps f s (suc m) e h =
-    let A = eqb (suc m % 2) 1 in
-    let B = ltb (suc m) (2 ^ prec f) in
-    let C = leb (down e) (2 ^ low f) in
-    let D = ltb (suc m * up e) (2 ^ suc (emax f) * down e) in
-    let b : suc m < 2 ^ prec f = ltb→lt (suc m) (2 ^ prec f) (and-r A B (and-l (A && B) C (and-l (A && B && C) D h))) in
-    let c : down e ≤ 2 ^ low f = leb→le (down e) (2 ^ low f) (and-r (A && B) C (and-l (A && B && C) D h)) in
-    let d : suc m * up e < 2 ^ suc (emax f) * down e = ltb→lt (suc m * up e) (2 ^ suc (emax f) * down e) (and-r (A && B && C) D h) in
-    same-value f (round f s (suc m * up e) (down e)) (fin s (suc m) e) s (suc m * up e) (down e) (down-pos e) (round-fits f s (suc m * up e) (down e)) h
-    (round-exact f s (suc m * up e) (down e) (suc m) (places f e) (down-pos e) b (in-range f (suc m) e c d) (in-units f (suc m) e c))
+round-keeps f s m e h =
+    let k = held f s m e h in
+    same-value f (round f s (m * up e) (down e)) (fin s m e) s (m * up e) (down e) (down-pos e) (round-fits f s (m * up e) (down e)) h
+    (round-exact f s (m * up e) (down e) m (places f e) (down-pos e) (k .digits) (in-range f m e (k .finest) (k .size)) (in-units f m e (k .finest)))
     (refl, refl)
 
 -- ---- a rounded fraction is no NaN

@@ -1,8 +1,8 @@
--- Numbers that the code writes out, the size of a number, and values that take the place of others. Definitions only.
+-- Numbers that the code writes out, the size of a number, the test of a range, and values that take the place of others. Definitions only.
 use Prim.Native.Nat.{zero, suc}
-use mathlib.Core.Bool.{false, cond}
+use mathlib.Core.Bool.{Bool, false, _&&_, cond}
 use lib.IntN.{pos, negsuc}
-use lib.Ieee.{Float, nan, inf, fin}
+use lib.Ieee.{Float, nan, inf, fin, le}
 use lib.Ieee.Scale.{finite}
 
 -- +0.0
@@ -23,6 +23,10 @@ magnitude nan = nan
 magnitude (inf s) = inf false
 magnitude (fin s zero e) = zeroF
 magnitude (fin s (suc m) e) = fin false (suc m) e
+
+-- whether x is from lo to hi, the ends included; a NaN is nowhere
+abbrev pub isBetween : Float → Float → Float → Bool
+isBetween lo hi x = le lo x && le x hi
 
 -- what is not finite reads as +0.0
 abbrev pub orZero : Float → Float

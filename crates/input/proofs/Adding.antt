@@ -9,7 +9,7 @@ use lib.Dec.{leb}
 use lib.ListN.{length, take, length-append}
 use lib.Seq.{paste, paste-zero, length-paste, take-paste, take-all, take-nil, take-length, take-append-le, take-append-add}
 use borrow.Author.Tests.{leb-true, leb-false}
-use Rattle.input.specs.Held.{Holds, Adds, Added, none, one, joined}
+use Rattle.input.specs.Held.{Holds, Adds, Added, none, one, piecesJoined}
 
 module _ (came file piece : List ℕ) (total : ℕ) (h : Holds came file total) where
   counted : total + length piece ≡ length (came ++ piece)
@@ -74,11 +74,11 @@ pub one-more : {piece : List ℕ} {pieces : List (List ℕ)} {file mid left : Li
 one-more none a = one a none
 one-more (one a r) b = one a (one-more r b)
 
-after : {pieces : List (List ℕ)} {file left : List ℕ} {total counted : ℕ} → Added pieces file total left counted → (came : List ℕ) → Holds came file total → Holds (came ++ joined pieces) left counted
-unfolding joined
+after : {pieces : List (List ℕ)} {file left : List ℕ} {total counted : ℕ} → Added pieces file total left counted → (came : List ℕ) → Holds came file total → Holds (came ++ piecesJoined pieces) left counted
+unfolding piecesJoined
 after none came h = rw append-nil h
 after (one {piece} {pieces} a r) came h = rw (← append-assoc) (after r (came ++ piece) (a .holds came h))
 
 -- from the first piece on
-pub pieces-held : {pieces : List (List ℕ)} {file left : List ℕ} {total : ℕ} → Added pieces file 0 left total → Holds (joined pieces) left total
+pub pieces-held : {pieces : List (List ℕ)} {file left : List ℕ} {total : ℕ} → Added pieces file 0 left total → Holds (piecesJoined pieces) left total
 pieces-held {pieces} {file} a = after a [] (record { count = refl; bytes = sym (take-nil (length file)) })

@@ -23,6 +23,6 @@ pub data Added : List (List ℕ) → List ℕ → ℕ → List ℕ → ℕ → T
       → Added (piece ∷ pieces) file total left counted
 
 -- the input that the pieces are cut from
-unfoldable pub joined : List (List ℕ) → List ℕ
-joined [] = []
-joined (piece ∷ pieces) = piece ++ joined pieces
+unfoldable pub piecesJoined : List (List ℕ) → List ℕ
+piecesJoined [] = []
+piecesJoined (piece ∷ pieces) = piece ++ piecesJoined pieces

@@ -15,9 +15,8 @@ use Rattle.region.specs.Defaults.{defaults}
 use Rattle.region.specs.declared.Settings.{Settings}
 use Rattle.boundaries.specs.Boundaries.{boundariesOf}
 use Rattle.extra.specs.Extra.{extrasOf, edgesOf}
-use Rattle.admit.specs.First.{firstOf, passes, firstFailed}
 use Rattle.admit.specs.Refusals.{tested, refusal, extrasRefusal, boundariesRefusal, boundariesWithRefusal}
-use Rattle.admit.proofs.First.{stop}
+use Rattle.admit.proofs.First.{passedInTurn, stop}
 use Rattle.entries.specs.Stages.{ifAdmitted, extrasEntry, edgesEntry}
 use Rattle.kiddwyr.specs.declared.Nucleus.{Nucleus}
 use Rattle.kiddwyr.specs.Records.{framesIn}
@@ -45,9 +44,6 @@ not-short b n h = rw (lt-leb n 2048 h) (go b)
     go : (b : Bool) → (b && false) ≡ false
     go true = refl
     go false = refl
-
-too-many : (b : Bool) (n : ℕ) (ns : List ℕ) (bs : List Bool) → 2048 < n → firstOf (1 ∷ ns) ((b && leb n 2048) ∷ bs) ≡ 1
-too-many b n ns bs h = sym (stop 1 ns bs (not-short b n h))
 
 refused : {A : Type 0} {number : ℕ} (found : List A) → number ≡ 1 → ifAdmitted number found [] ≡ []
 unfolding ifAdmitted
@@ -80,8 +76,8 @@ module _ (db pitch sonority : List Float) (start end : ℕ) (p : Settings) (fram
   extrasBy ns = extrasRefusal db pitch sonority start end ns p frames strengths edges
 
   many-extras : (ns : List ℕ) → 2048 < length ns → extrasRefusal db pitch sonority start end ns p frames strengths edges ≡ 1
-  unfolding extrasRefusal refusal firstFailed passes tested
-  many-extras ns h = too-many (leb (length db) 2048 && leb (length pitch) 2048 && leb (length sonority) 2048) (length ns) _ _ h
+  unfolding extrasRefusal refusal tested passedInTurn
+  many-extras ns h = sym (stop 1 _ _ (not-short (leb (length db) 2048 && leb (length pitch) 2048 && leb (length sonority) 2048) (length ns) h))
 
   module _ {given : List ℕ} (ns : List ℕ) (e : given ≡ take 2049 ns) where
     pub extras-given : extrasBy given ≡ extrasBy ns
@@ -101,8 +97,8 @@ module _ (db pitch voiced : List Float) (start end : ℕ) (p : Settings) (bounds
   withFound ns = ifAdmitted (withBy ns) (boundariesOf db pitch voiced start end ns p) []
 
   many-with : (ns : List ℕ) → 2048 < length ns → boundariesWithRefusal db pitch voiced start end ns p bounds ≡ 1
-  unfolding boundariesWithRefusal refusal firstFailed passes tested
-  many-with ns h = too-many (leb (length db) 2048 && leb (length pitch) 2048 && leb (length voiced) 2048) (length ns) _ _ h
+  unfolding boundariesWithRefusal refusal tested passedInTurn
+  many-with ns h = sym (stop 1 _ _ (not-short (leb (length db) 2048 && leb (length pitch) 2048 && leb (length voiced) 2048) (length ns) h))
 
   module _ {given : List ℕ} (ns : List ℕ) (e : given ≡ take 2049 ns) where
     pub with-given : withBy given ≡ withBy ns

@@ -17,6 +17,7 @@ use Rattle.nuclei.specs.Nuclei as found
 use Rattle.nuclei.specs.Nuclei.{framesOf, strengthsOf}
 use Rattle.region.specs.declared.Settings.{Settings}
 use Rattle.extra.specs.Extra.{extrasOf, edgesOf}
+use Rattle.admit.specs.Values.{allOf}
 use Rattle.admit.specs.First.{passes, firstFailed}
 use Rattle.admit.specs.Refusals.{tested, refusal, nucleiRefusal, extrasRefusal, chainRefusal}
 use Rattle.admit.proofs.First.{after-first}
@@ -43,9 +44,9 @@ enough n a room h e = go (leb n a) (leb n room) refl refl
 
 module _ (db pitch : List Float) (start end : ℕ) (p : Settings) (a b room : ℕ) (ea : a ≡ min room 2048) (eb : b ≡ min room 2048) where
   pub nuclei-room : nucleiRefusal db pitch start end p a b ≡ nucleiRefusal db pitch start end p room room
-  unfolding nucleiRefusal refusal firstFailed passes tested
+  unfolding nucleiRefusal refusal firstFailed passes allOf tested
   nuclei-room = after-first _ _ _ (λ h.
-      let n = leb-true (length db) 2048 (and-cases _ (leb (length pitch) 2048) h .0) in
+      let n = leb-true (length db) 2048 (and-cases (leb (length db) 2048) _ h .0) in
       rw (enough (length db) a room n ea, enough (length db) b room n eb))
 
   pub nuclei-room-found : nucleiEntry db pitch start end p a b ≡ nucleiEntry db pitch start end p room room
@@ -53,16 +54,16 @@ module _ (db pitch : List Float) (start end : ℕ) (p : Settings) (a b room : �
 
 module _ (db pitch voiced sonority : List Float) (vowel : List ℕ) (samples : ℕ) (p : Settings) (a b room c d xroom edges bounds : ℕ) (ea : a ≡ min room 2048) (eb : b ≡ min room 2048) (ec : c ≡ min xroom 2048) (ed : d ≡ min xroom 2048) where
   pub chain-room : chainRefusal db pitch voiced sonority vowel samples p a b c d edges bounds ≡ chainRefusal db pitch voiced sonority vowel samples p room room xroom xroom edges bounds
-  unfolding chainRefusal refusal firstFailed passes tested
+  unfolding chainRefusal refusal firstFailed passes allOf tested
   chain-room = after-first _ _ _ (λ h.
-      let n = leb-true (length db) 2048 (and-cases _ _ (and-cases _ _ (and-cases _ _ (and-cases _ (leb (length vowel) 2048) h .0) .0) .0) .0) in
+      let n = leb-true (length db) 2048 (and-cases (leb (length db) 2048) _ h .0) in
       rw (enough (length db) a room n ea, enough (length db) b room n eb, enough (length db) c xroom n ec, enough (length db) d xroom n ed))
 
 module _ (db pitch sonority : List Float) (start end : ℕ) (nuclei : List ℕ) (p : Settings) (a b room edges : ℕ) (ea : a ≡ min room 2048) (eb : b ≡ min room 2048) where
   pub extras-room : extrasRefusal db pitch sonority start end nuclei p a b edges ≡ extrasRefusal db pitch sonority start end nuclei p room room edges
-  unfolding extrasRefusal refusal firstFailed passes tested
+  unfolding extrasRefusal refusal firstFailed passes allOf tested
   extras-room = after-first _ _ _ (λ h.
-      let n = leb-true (length db) 2048 (and-cases _ _ (and-cases _ _ (and-cases _ (leb (length nuclei) 2048) h .0) .0) .0) in
+      let n = leb-true (length db) 2048 (and-cases (leb (length db) 2048) _ h .0) in
       rw (enough (length db) a room n ea, enough (length db) b room n eb))
 
   pub extras-room-found : extrasEntry db pitch sonority start end nuclei p a b edges ≡ extrasEntry db pitch sonority start end nuclei p room room edges

@@ -12,7 +12,7 @@ use Rattle.entries.specs.declared.stages.Answer.{Answer}
 use Rattle.entries.specs.declared.stages.Counted.{Counted}
 use Rattle.kiddwyr.specs.declared.Nucleus.{Nucleus}
 use Rattle.kiddwyr.specs.Records.{recordsOf, framesIn, ExtrasCall}
-use Rattle.kiddwyr.specs.Within.{Filled, Taken, Scratch, Laid, ExtrasWithin}
+use Rattle.kiddwyr.specs.Within.{Filled, FramesTaken, Scratch, Laid, ExtrasWithin}
 use Rattle.kiddwyr.proofs.Rooms.{laid-listed}
 use Rattle.kiddwyr.proofs.Given.{extras-given, extras-given-found, edges-given-found, with-given, with-given-found, bounds-given, bounds-given-found}
 
@@ -25,7 +25,7 @@ pub laid-room : {ns : List found.Nucleus} {f : List ℕ} {s : List Float} {room 
 laid-room l = (l .framed .within, l .strong .within, l .fits)
 
 -- ---- around the frames of nuclei: `given` holds them after `take_frames`
-module _ (nuclei : List Nucleus) (blank : ℕ) {given : List ℕ} {count : ℕ} (taken : Taken nuclei (replicate 2049 blank) given count) where
+module _ (nuclei : List Nucleus) (blank : ℕ) {given : List ℕ} {count : ℕ} (taken : FramesTaken nuclei (replicate 2049 blank) given count) where
   frames : take count given ≡ take 2049 (framesIn nuclei)
   frames = listed-take taken ∙ ap (λ (n : ℕ). take n (framesIn nuclei)) (length-replicate 2049 blank)
 

@@ -28,8 +28,8 @@ abbrev pub Filled : List ℕ → List Float → ℕ → List Nucleus → List Nu
 Filled frames strengths count old new = new ≡ overlay (paired (take count frames) (take count strengths)) old
 
 -- `take_frames`: as many frames as there is room for
-abbrev pub Taken : List Nucleus → List ℕ → List ℕ → ℕ → Type 0
-Taken nuclei old new r = Listed (take (length old) (framesIn nuclei)) old new r
+abbrev pub FramesTaken : List Nucleus → List ℕ → List ℕ → ℕ → Type 0
+FramesTaken nuclei old new r = Listed (take (length old) (framesIn nuclei)) old new r
 
 -- lists that stand for any list of records: no take has more nuclei
 abbrev pub Scratch : List ℕ → List Float → Type 0

@@ -7,7 +7,7 @@ ghost use Rattle.entries.specs.Stages.{MarksCall, RegionCall, RepairCall, Recov
 ghost use Rattle.chain.specs.Chain as plain;
 ghost use Rattle.chain.specs.Chain.{takeOf};
 ghost use Rattle.kiddwyr.specs.Records.{framesIn, listsOf, NucleiCall, ExtrasCall, ChainCall};
-ghost use Rattle.kiddwyr.specs.Within.{Filled, Taken, Scratch, NucleiWithin, ExtrasWithin, ChainWithin};
+ghost use Rattle.kiddwyr.specs.Within.{Filled, FramesTaken, Scratch, NucleiWithin, ExtrasWithin, ChainWithin};
 use chain::Marks;
 use entries::stages::Answer;
 use entries::stages::Counted;
@@ -45,7 +45,7 @@ fn fill_nuclei(frames: &[u32], strengths: &[f32], count: usize, out: &mut [Nucle
 
 // Copies the frames of records to the front of a list, as many as it has room for, and returns how many.
 fn take_frames(nuclei: &[Nucleus], frames: &mut [u32]) -> usize
-    ensures { λ r. ⌜ Taken (now (nuclei .entry)) (now (frames .entry)) (now (frames .exit)) r ⌝ }
+    ensures { λ r. ⌜ FramesTaken (now (nuclei .entry)) (now (frames .entry)) (now (frames .exit)) r ⌝ }
 {
     let count = smaller(nuclei.len(), frames.len());
     let mut i = 0;

@@ -3,23 +3,23 @@ use mathlib.Core.Path.{refl}
 use mathlib.Core.List.{flatMap}
 use lib.Ieee.{add, sub, mul, div, round, ofInt, toUnsigned, toBits, ofBits, lt, le, eq, ne}
 use Rattle.floats.specs.Narrow.{narrow}
-use Rattle.lists.specs.Frames.{tabulate, someFrame, allFrames, firstFrame}
+use Rattle.lists.specs.Frames.{tabulate, someFrame, allFrames, firstFrame, lastFrame}
 use Rattle.lists.specs.Results.{overlay, filter, keep}
 use Rattle.lists.specs.Marks.{member, inOrder}
 use Rattle.powers.specs.Pitch.{breaksIn, stepIn, octaveIn}
 use Rattle.smooth.specs.Level.{means, levels}
-use Rattle.smooth.specs.Extrema.{flatFirst, flatLast, isExtremum, localExtrema, firstBest, extremumMiddle, furthest, shallow}
+use Rattle.smooth.specs.Extrema.{isExtremum, localExtrema, firstBest, extremumMiddle, furthest, shallow}
 use Rattle.region.specs.Defaults.{defaults}
 use Rattle.region.specs.Percentile.{tenthOf}
 use Rattle.region.specs.Speech.{regionIn}
 use Rattle.lists.specs.Grouped.{attach, grouped}
 use Rattle.runs.specs.Runs.{voicedFrames, voicedRuns, longRuns}
-use Rattle.runs.specs.Near.{nearest, runOf, separate}
+use Rattle.runs.specs.Near.{awayBy, runOf, separate}
 use Rattle.runs.specs.Syllables.{breaksFrom, syllablesOf, syllableRuns, gaps, dropoutsOf, dropouts}
 use Rattle.nsdf.specs.Nsdf.{cross, power, nsdf, window}
-use Rattle.repair.specs.Repair.{framesIn, neighbours, beside, repairedAmong, repaired}
+use Rattle.repair.specs.Repair.{voicedIn, neighbours, beside, repairedAmong, repaired}
 use Rattle.recover.specs.Estimates.{estimates}
-use Rattle.recover.specs.Recovered.{startOf, recoveredFrom, recoveredBy}
+use Rattle.recover.specs.Recovered.{recoveredFrom, recoveredBy}
 use Rattle.nuclei.specs.Merging.{pushBy, mergeBy, merged}
 use Rattle.nuclei.specs.Peaks.{pitchNear, speechByLevel, voicedPeak, ontoRun, peaksOnto, voicedPeaks}
 use Rattle.nuclei.specs.Tops.{runsHeld, unheldFrom, unheld, hasTop, standsAlone, topOf, onFlank, topsOf}
@@ -41,7 +41,7 @@ use Rattle.admit.specs.Refusals.{tested, refusal, regionRefusal, chainRefusal}
 use Rattle.entries.specs.Stages.{ifAdmitted, spanned}
 use Rattle.chain.specs.Chain.{pitchesOf, readingOf, chainOf}
 use Rattle.take.specs.Fields.{halfAt, wordAt}
-use Rattle.take.specs.File.{agrees, refusalOf, records, takeIn, readTake}
+use Rattle.take.specs.File.{agrees, fileRefusal, records, takeIn, readTake}
 use Rattle.take.specs.Text.{glyph, hexDigits, decimalIn}
 use Rattle.take.specs.Listing.{markLines, pitchLines, regionLine, listing}
 use Rattle.report.specs.Shown.{textOf, printed}
@@ -49,5 +49,5 @@ use Rattle.lists.specs.By.{Each}
 use Rattle.known.specs.Table.{Right, known}
 
 pub known-right : Each Right known
-unfolding known chainOf overlay regionRefusal ifAdmitted spanned eq printed textOf flatMap readingOf pitchesOf filter keep means levels flatFirst flatLast isExtremum localExtrema someFrame allFrames firstFrame firstBest extremumMiddle furthest shallow defaults tenthOf regionIn attach grouped voicedFrames voicedRuns longRuns nearest runOf separate breaksFrom syllablesOf syllableRuns gaps dropoutsOf dropouts breaksIn member inOrder framesIn neighbours beside repairedAmong repaired tabulate estimates startOf recoveredFrom recoveredBy octaveIn pushBy mergeBy merged pitchNear speechByLevel voicedPeak ontoRun peaksOnto voicedPeaks runsHeld unheldFrom unheld hasTop standsAlone topOf onFlank topsOf candidates oneNucleus louder nucleusFrames nucleiOver nucleiOf unpitched unpitchedPeaks change maySplit splitOf oneSyllable survivor anchors heldBy secondIn seconds edgesBetween sides extraFrames extraEdges extrasOf edgesOf extraCandidates clear tryAdd addAll joint joints jointsInside between pauseEdges creaks inCreak voicingEdges inLongSpan minima chosen boundariesIn dbAdmitted pitchAdmitted allOf firstOf passes firstFailed tested refusal chainRefusal halfAt wordAt agrees refusalOf records takeIn readTake glyph hexDigits decimalIn markLines pitchLines regionLine listing stepIn cross power nsdf window narrow add sub mul div round ofInt toUnsigned toBits ofBits lt le ne
+unfolding known chainOf overlay regionRefusal ifAdmitted spanned eq printed textOf flatMap readingOf pitchesOf filter keep means levels isExtremum localExtrema someFrame allFrames firstFrame lastFrame firstBest extremumMiddle furthest shallow defaults tenthOf regionIn attach grouped voicedFrames voicedRuns longRuns awayBy runOf separate breaksFrom syllablesOf syllableRuns gaps dropoutsOf dropouts breaksIn member inOrder voicedIn neighbours beside repairedAmong repaired tabulate estimates recoveredFrom recoveredBy octaveIn pushBy mergeBy merged pitchNear speechByLevel voicedPeak ontoRun peaksOnto voicedPeaks runsHeld unheldFrom unheld hasTop standsAlone topOf onFlank topsOf candidates oneNucleus louder nucleusFrames nucleiOver nucleiOf unpitched unpitchedPeaks change maySplit splitOf oneSyllable survivor anchors heldBy secondIn seconds edgesBetween sides extraFrames extraEdges extrasOf edgesOf extraCandidates clear tryAdd addAll joint joints jointsInside between pauseEdges creaks inCreak voicingEdges inLongSpan minima chosen boundariesIn dbAdmitted pitchAdmitted allOf firstOf passes firstFailed tested refusal chainRefusal halfAt wordAt agrees fileRefusal records takeIn readTake glyph hexDigits decimalIn markLines pitchLines regionLine listing stepIn cross power nsdf window narrow add sub mul div round ofInt toUnsigned toBits ofBits lt le ne
 known-right = (refl, (refl, (refl, (refl, (refl, (refl, (refl, (refl, (refl, (refl, ((refl, refl), (refl, (refl, (refl, (refl, (refl, (refl, (refl, (refl, (refl, (refl, (refl, (refl, (refl, tt))))))))))))))))))))))))

@@ -5,13 +5,13 @@ use native.Mathlib.Nat.{add-zero, zero-add, suc-add}
 use native.Mathlib.Omega.{arith}
 use native.Mathlib.Numerals.{add-one}
 use mathlib.Core.Path.{_≡_, refl, sym, ap, ap₂, subst, _∙_}
-use mathlib.Core.Bool.{Bool, true, false}
+use mathlib.Core.Bool.{Bool, true, false, cond}
 use mathlib.Core.List.{List, [], _∷_, _++_, append-assoc, append-nil, map}
 use lib.Dec.{leb}
 use borrow.Author.Tests.{leb-true, leb-false}
 use lib.ListN.{length, getD, take, drop, set, length-append, length-drop, drop-of-length-le}
 use lib.Seq.{drop-cons, set-at, take-append-seam}
-use Rattle.lists.specs.Results.{overlay, Listed, Front, Pushed, keep, consIf, filter, setIf, moreIf}
+use Rattle.lists.specs.Results.{overlay, Listed, Front, Pushed, keep, consIf, filter, moreIf}
 
 pub record Filling {ℓ} {A : Type ℓ} (whole rest out₀ out : List A) (n : ℕ) : Type ℓ where
   pub done : List A
@@ -67,7 +67,7 @@ module _ {ℓ} {A : Type ℓ} {whole rest out₀ out : List A} {n : ℕ} (b : Bo
   pub fill-pushed : {out' : List A} {n' : ℕ} → Filling whole (consIf b x rest) out₀ out n → Pushed b x n out out' n' → Filling whole rest out₀ out' n'
   fill-pushed {out'} {n'} f p = rw (p .count, p .entries) (go b f)
     where
-      go : (b : Bool) → Filling whole (consIf b x rest) out₀ out n → Filling whole rest out₀ (setIf b out n x) (moreIf b n)
+      go : (b : Bool) → Filling whole (consIf b x rest) out₀ out n → Filling whole rest out₀ (cond b (set out n x) out) (moreIf b n)
       go true f = fill-push f
       go false f = f
 

@@ -28,3 +28,8 @@ allFrames t i (suc k) = t i && allFrames t (i + 1) k
 unfoldable pub firstFrame : (ℕ → Bool) → ℕ → ℕ → ℕ
 firstFrame t i zero = i
 firstFrame t i (suc k) = cond (t i) i (firstFrame t (i + 1) k)
+
+-- the last frame up to frame i that passes; frame 0 where none does
+unfoldable pub lastFrame : (ℕ → Bool) → ℕ → ℕ
+lastFrame t zero = zero
+lastFrame t (suc i) = cond (t (suc i)) (suc i) (lastFrame t i)

@@ -1,7 +1,7 @@
 -- The results that are made of what passes a test (`filter`, `keep`); and scaffolding of the code's loops: how a result is written to a lent list. Definitions only.
 use Prim.Native.Nat.{ℕ, zero, suc, _+_, _-_, _≤_}
 use mathlib.Core.Path.{_≡_}
-use mathlib.Core.Bool.{Bool, true, false}
+use mathlib.Core.Bool.{Bool, true, false, cond}
 use mathlib.Core.List.{List, [], _∷_, _++_}
 use lib.ListN.{length, take, drop, set}
 
@@ -29,11 +29,6 @@ unfoldable pub filter {ℓ} : {A : Type ℓ} → (A → Bool) → List A → Lis
 filter p [] = []
 filter p (x ∷ xs) = consIf (p x) x (filter p xs)
 
--- an entry stored at n, where b holds
-abbrev pub setIf {ℓ} : {A : Type ℓ} → Bool → List A → ℕ → A → List A
-setIf true l n x = set l n x
-setIf false l n x = l
-
 -- one more, where b holds
 abbrev pub moreIf : Bool → ℕ → ℕ
 moreIf true n = n + 1
@@ -42,7 +37,7 @@ moreIf false n = n
 -- what a call leaves that writes one entry at the count n where b holds, and returns the new count r
 pub record Pushed {ℓ} {A : Type ℓ} (b : Bool) (x : A) (n : ℕ) (old new : List A) (r : ℕ) : Type ℓ where
   pub count : r ≡ moreIf b n
-  pub entries : new ≡ setIf b old n x
+  pub entries : new ≡ cond b (set old n x) old
 
 -- of the k frames from i on, those that pass
 unfoldable pub keep : (ℕ → Bool) → ℕ → ℕ → List ℕ

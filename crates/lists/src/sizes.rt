@@ -1,4 +1,4 @@
-// The smaller and the larger of two sizes.
+// The smaller and the larger of two sizes, and of two u32.
 ghost use mathlib.Core.Path.{_≡_};
 ghost use Prim.Native.Nat.{min, max};
 
@@ -9,6 +9,18 @@ pub fn smaller(a: usize, b: usize) -> usize
 }
 
 pub fn larger(a: usize, b: usize) -> usize
+    ensures { λ r. ⌜ r ≡ max a b ⌝ }
+{
+    if a < b { b } else { a }
+}
+
+pub fn smaller_u32(a: u32, b: u32) -> u32
+    ensures { λ r. ⌜ r ≡ min a b ⌝ }
+{
+    if a < b { a } else { b }
+}
+
+pub fn larger_u32(a: u32, b: u32) -> u32
     ensures { λ r. ⌜ r ≡ max a b ⌝ }
 {
     if a < b { b } else { a }

@@ -4,7 +4,7 @@ use mathlib.Core.List.{List}
 use lib.ListN.{length}
 use Rattle.lists.specs.Results.{Listed}
 use Rattle.report.specs.Shown.{printed}
-use Rattle.input.specs.Held.{joined}
+use Rattle.input.specs.Held.{piecesJoined}
 use Rattle.marks.specs.declared.Outcome.{Outcome}
 use Rattle.marks.specs.declared.Outcome.the-variants.{Unread, Told}
 
@@ -17,6 +17,6 @@ abbrev pub longest : ℕ
 longest = 19 + 17 * 65535
 
 -- what is answered: the text of the input that the pieces are cut from
-abbrev pub Answered : List ℕ → List ℕ → Outcome → Type 0
-Answered old new Unread = Unit
-Answered old new (Told n) = (pieces : List (List ℕ)) × Listed (textFor (joined pieces)) old new n
+abbrev pub TextAnswered : List ℕ → List ℕ → Outcome → Type 0
+TextAnswered old new Unread = Unit
+TextAnswered old new (Told n) = (pieces : List (List ℕ)) × Listed (textFor (piecesJoined pieces)) old new n

@@ -13,7 +13,7 @@ ghost use Rattle.take.specs.Listing.{largestListing};
 ghost use Rattle.input.specs.Held.{Holds};
 ghost use Rattle.input.specs.Reading.{Stopped};
 ghost use Rattle.lists.specs.Results.{Listed};
-ghost use Rattle.marks.specs.Answer.{textFor, longest, Answered};
+ghost use Rattle.marks.specs.Answer.{textFor, longest, TextAnswered};
 
 // The bytes of a file of 65,535 frames, the most that a head can name: no longer one agrees.
 const LONGEST: usize = 1_114_114;
@@ -59,7 +59,7 @@ fn tell(file: &[u8], total: usize, page: &mut [u8]) -> usize
 // Reads the input and writes what is printed for it. Past the longest file that does not depend on what was left unread.
 fn answer(page: &mut [u8]) -> Outcome
     requires { ⌜ largestListing ≤ length (now page) ⌝ }
-    ensures { λ r. ⌜ Answered (now (page .entry)) (now (page .exit)) r ⌝ }
+    ensures { λ r. ⌜ TextAnswered (now (page .entry)) (now (page .exit)) r ⌝ }
 {
     let mut file = blank_file();
     match read_file(&mut file) {

@@ -4,18 +4,19 @@ use Prim.Native.Nat.{ℕ, zero, suc, _+_, _-_, _≤_, _<_}
 use native.Mathlib.Nat.{le-of-eq}
 use native.Mathlib.Omega.{arith}
 use mathlib.Core.Bool.{Bool, true, false}
-use mathlib.Core.List.{List, map, foldl}
+use mathlib.Core.List.{List, map}
 use lib.IntN.{ℤ}
 use lib.ListN.{length, drop, set}
 use lib.Ieee.{Float, nan, inf}
 use Rattle.lists.specs.Results.{keep, consIf}
+use Rattle.lists.specs.By.{better, bestOf}
 use Rattle.lists.proofs.Fill.{Filling, fill-start, fill-entry, fill-over, listed-all, keep-step, keep-over}
 use Rattle.lists.proofs.Tabulated.{length-tabulate, tabulate-at}
 use Rattle.nsdf.specs.declared.period.Peak.{Peak}
 use Rattle.nsdf.specs.declared.period.Peak.the-variants.{At, Missing}
 use Rattle.nsdf.specs.Nsdf.{nsdf}
 use Rattle.lists.specs.Frames.{at}
-use Rattle.nsdf.specs.Period.{larger, measured, isPeak, isNear, first, bestPeak, firstPeak}
+use Rattle.nsdf.specs.Period.{above, measured, isPeak, isNear, first, bestPeak, firstPeak}
 
 -- ---- the lags
 
@@ -44,7 +45,7 @@ module _ (w : List ℤ) {d₀ : List Float} where
 -- ---- the best of the peaks, and the first that is near it: `best` with the peaks from k on, and the first from k on
 
 abbrev pub bestFrom : List Float → Float → ℕ → Float
-bestFrom d best k = foldl larger best (map (at d) (keep (isPeak d) k (199 - k)))
+bestFrom d best k = bestOf above best (map (at d) (keep (isPeak d) k (199 - k)))
 
 abbrev pub firstFrom : List Float → Float → ℕ → Peak
 firstFrom d least k = first (keep (isNear d least) k (199 - k))
@@ -65,7 +66,7 @@ module _ (d : List Float) where
   near-last least k h = rw (keep-over (isNear d least) k 199 h)
 
   module _ (k : ℕ) (more : k < 199) where
-    pub best-peak : (best : Float) → isPeak d k ≡ true → bestFrom d (larger best (at d k)) (k + 1) ≡ bestFrom d best k
+    pub best-peak : (best : Float) → isPeak d k ≡ true → bestFrom d (better above best (at d k)) (k + 1) ≡ bestFrom d best k
     best-peak best t = rw (keep-step (isPeak d) k 199 more, t)
 
     pub best-none : (best : Float) → isPeak d k ≡ false → bestFrom d best (k + 1) ≡ bestFrom d best k

@@ -1,13 +1,14 @@
 -- The pitch of a take around a sample, from the peaks of its periodicity. Definitions only.
 use Prim.Native.Nat.{ℕ, _+_, _-_}
 use mathlib.Core.Bool.{Bool, true, cond, _&&_}
-use mathlib.Core.List.{List, [], _∷_, map, foldl}
+use mathlib.Core.List.{List, [], _∷_, map}
 use lib.IntN.{ℤ, pos}
 use lib.Ieee.{Float, inf, binary64, add, sub, mul, div, neg, lt, le, ofInt}
 use Rattle.floats.specs.Plain.{zeroF, half, two}
 use Rattle.floats.specs.Ratio.{ratio}
 use Rattle.lists.specs.Frames.{at, tabulate}
 use Rattle.lists.specs.Results.{keep}
+use Rattle.lists.specs.By.{bestOf}
 use Rattle.nsdf.specs.declared.period.Estimate.{Estimate}
 use Rattle.nsdf.specs.declared.period.Estimate.the-variants.{Nothing, Hz}
 use Rattle.nsdf.specs.declared.period.Peak.{Peak}
@@ -22,13 +23,13 @@ measured w = tabulate (λ k. nsdf w (31 + k)) 200
 abbrev pub isPeak : List Float → ℕ → Bool
 isPeak d k = lt (at d (k - 1)) (at d k) && le (at d (k + 1)) (at d k)
 
--- the larger of two values
-abbrev pub larger : Float → Float → Float
-larger x y = cond (lt x y) y x
+-- x lies above y
+abbrev pub above : Float → Float → Bool
+above x y = lt y x
 
 -- the highest of the peaks at lags 32 to 229
 unfoldable pub bestPeak : List Float → Float
-bestPeak d = foldl larger (inf true) (map (at d) (keep (isPeak d) 1 198))
+bestPeak d = bestOf above (inf true) (map (at d) (keep (isPeak d) 1 198))
 
 -- a peak at or above `least`
 abbrev pub isNear : List Float → Float → ℕ → Bool

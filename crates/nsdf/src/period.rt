@@ -4,7 +4,8 @@ use crate::sums;
 ghost use mathlib.Core.Path.{_≡_};
 ghost use Prim.Native.Nat.{_+_, _-_, _≤_, _<_, min};
 ghost use lib.ListN.{length};
-ghost use Rattle.nsdf.specs.Period.{measured, isPeak, larger, bestPeak, isNear, firstPeak, clamped, shift, refined, estimated, periodHz};
+ghost use Rattle.lists.specs.By.{better};
+ghost use Rattle.nsdf.specs.Period.{measured, isPeak, above, bestPeak, isNear, firstPeak, clamped, shift, refined, estimated, periodHz};
 
 // Samples on either side of the centre of the window.
 const HALF_WINDOW: usize = 256;
@@ -55,7 +56,7 @@ fn is_peak(d: &[f64; 200], k: usize) -> bool
 
 // The larger of two numbers, the first where they are equal.
 fn larger(x: f64, y: f64) -> f64
-    ensures { λ r. ⌜ r ≡ larger x y ⌝ }
+    ensures { λ r. ⌜ r ≡ better above x y ⌝ }
 {
     if x < y { y } else { x }
 }

@@ -1,13 +1,13 @@
 -- What the comparisons of pitches mean, over exact values: a finite float is the fraction `num` / `den`. Definitions only.
 use Prim.Native.Nat.{ℕ, _*_, _^_, min, max}
 use mathlib.Core.Path.{_≡_}
-use mathlib.Core.Bool.{Bool, false, _&&_, cond}
+use mathlib.Core.Bool.{Bool, false, cond}
 use mathlib.Core.Logic.{_⊎_}
 use lib.IntN.{pos}
 use lib.Dec.{T, leb, ltb}
 use lib.Ieee.{Float, fin, le}
 use lib.Ieee.Positive.{num, den}
-use Rattle.floats.specs.Plain.{zeroF}
+use Rattle.floats.specs.Plain.{zeroF, isBetween}
 use Rattle.powers.specs.declared.pitch.Octave.{Octave}
 use Rattle.powers.specs.declared.pitch.Octave.the-variants.{Keep, Halve, Double}
 use Rattle.powers.specs.declared.pitch.Pitch.{Pitch}
@@ -25,10 +25,6 @@ Between lo hi x = T (le (hz lo) x) × T (le x (hz hi))
 abbrev pub PitchOrNone : ℕ → ℕ → Float → Type 0
 PitchOrNone lo hi x = (x ≡ zeroF) ⊎ Between lo hi x
 
--- the test of a range
-abbrev pub isBetween : ℕ → ℕ → Float → Bool
-isBetween lo hi x = le (hz lo) x && le x (hz hi)
-
 -- a break, 3 semitones or more: the larger of x and y to the 4th is at least twice the smaller to the 4th
 unfoldable pub breaksIn : ℕ → ℕ → Bool
 breaksIn x y = leb (2 * min x y ^ 4) (max x y ^ 4)
@@ -39,7 +35,7 @@ breaksAt p q = breaksIn (num p * den q) (num q * den p)
 
 -- what an entry of a track stands for: a pitch from 20 to 4,000 Hz, or none
 abbrev pub pitchOf : Float → Pitch
-pitchOf x = cond (isBetween 20 4000 x) (Hz x) Unvoiced
+pitchOf x = cond (isBetween (hz 20) (hz 4000) x) (Hz x) Unvoiced
 
 -- a break between what two entries stand for; there is none where one is no pitch
 abbrev pub breaksBetween : Pitch → Pitch → Bool

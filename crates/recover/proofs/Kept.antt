@@ -26,13 +26,13 @@ use Rattle.powers.proofs.Ranges.{enclosed}
 use Rattle.recover.specs.Estimates.{silent, estimates, InRange}
 use Rattle.recover.specs.Recovered.{startOf, endOf, island, stored, recoveredAt, recoveredFrom, recoveredBy}
 use Rattle.recover.proofs.Trying.{estimate-of, untried, estimate-has}
-use Rattle.recover.proofs.Walking.{joins-none, none-joins, start-here, end-here}
+use Rattle.recover.proofs.Walking.{start-alone, end-alone}
 
 -- ---- a frame with no estimate is a stretch of one frame, which is not recovered
 none-kept : (given : List Float) (es : List Estimate) (i : ℕ) → getD es i Nothing ≡ Nothing → recoveredAt given es i ≡ getD given i zeroF
 none-kept given es i e =
-    let s : startOf es i ≡ i = start-here es i (joins-none es i e) in
-    let t : endOf es i ≡ i + 1 = end-here es i (none-joins es i e) in
+    let s : startOf es i ≡ i = start-alone es i e in
+    let t : endOf es i ≡ i + 1 = end-alone es i e in
     let one : i + 1 - i ≡ 1 = omega arith in
     let short : leb 3 (endOf es i - startOf es i) ≡ false = ap (leb 3) (ap₂ _-_ t s ∙ one) in
     rw short

@@ -21,17 +21,17 @@ use Rattle.lists.proofs.Tabulated.{length-tabulate, tabulate-at}
 use Rattle.nsdf.specs.declared.period.Estimate.{Estimate}
 use Rattle.nsdf.specs.declared.period.Estimate.the-variants.{Nothing}
 use Rattle.powers.specs.Pitch.{PitchOrNone}
-use Rattle.recover.specs.Recovered.{joins, endOf, island, stored, recoveredAt, recoveredFrom}
+use Rattle.recover.specs.Recovered.{starts, endOf, island, stored, recoveredAt, recoveredFrom}
 use Rattle.recover.specs.Held.{readOf}
 use Rattle.recover.proofs.Reading.{stored-read, read-at}
-use Rattle.recover.proofs.Walking.{end-above, end-within, end-cuts, inside-at}
+use Rattle.recover.proofs.Walking.{end-above, end-within, end-starts, inside-at}
 
 -- ---- the track, settled before frame s, where a stretch starts, and from there on as given
 pub record Settled (given : List Float) (es : List Estimate) (out : List Float) (s : ℕ) : Type 0 where
   pub size : length out ≡ length given
   pub done : (k : ℕ) → k < s → at out k ≡ recoveredAt given es k
   pub left : (k : ℕ) → s ≤ k → at out k ≡ at given k
-  pub cut : joins es s ≡ false
+  pub first : starts es s ≡ true
   pub within : s ≤ length es
 
 pub settled-start : (given : List Float) (es : List Estimate) (out : List Float) → out ≡ given → Settled given es out 0
@@ -39,7 +39,7 @@ settled-start given es out e = record {
   size = ap length e;
   done = λ k h. absurd (omega arith);
   left = λ k h. ap (λ (l : List Float). getD l k nan) e;
-  cut = refl;
+  first = refl;
   within = omega arith;
 }
 
@@ -63,10 +63,10 @@ module _ (given xs : List Float) (long : length xs ≡ length given) (held : Eac
       record {
         size = size ∙ r .size;
         done = λ k l.
-            ⊎-elim (λ z. here k (omega arith) l ∙ ap₂ (cond b) (stored-at k (omega arith)) (getD-any given k nan zeroF (omega arith)) ∙ sym (inside-at es s (r .cut) given b q k (omega arith) l))
+            ⊎-elim (λ z. here k (omega arith) l ∙ ap₂ (cond b) (stored-at k (omega arith)) (getD-any given k nan zeroF (omega arith)) ∙ sym (inside-at es s (r .first) given b q k (omega arith) l))
             (λ z. before k (omega arith) ∙ r .done k (omega arith)) (eq-zero-or-pos (s - k));
         left = λ k l. after k l ∙ r .left k (omega (arith, end-above es s));
-        cut = end-cuts es s;
+        first = end-starts es s;
         within = end-within es s inside;
       }
 

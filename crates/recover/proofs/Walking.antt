@@ -2,22 +2,19 @@
 use Prim.Native.Nat.{ℕ, zero, suc, _+_, _-_, _≤_, _<_}
 use native.Mathlib.Omega.{arith}
 use native.Mathlib.Numerals.{add-one}
-use native.Mathlib.Nat.{eq-or-lt-of-le}
-use mathlib.Core.Path.{_≡_, refl, sym, ap, ap₂, _∙_, subst}
-use mathlib.Core.Bool.{Bool, true, false, not, cond, true≢false}
+use mathlib.Core.Path.{_≡_, refl, sym, ap, ap₂, _∙_}
+use mathlib.Core.Bool.{Bool, true, false, not, cond}
 use mathlib.Core.List.{List, map}
-use mathlib.Core.Logic.{⊎-elim}
-use borrow.Author.Tests.{not-true, not-false, leb-true, leb-false, ltb-true, ltb-false}
-use lib.Dec.{leb, ltb}
-use lib.Arith.{le-zero}
+use borrow.Author.Tests.{leb-true, leb-false}
+use lib.Dec.{leb}
 use lib.ListN.{length, getD, List·getD-eq-default}
 use lib.Ieee.{Float, nan}
 use Rattle.floats.specs.Plain.{zeroF}
-use Rattle.lists.proofs.Walks.{First, first-is}
+use Rattle.lists.proofs.Walks.{First, first-is, first-only, none-yet, back-start, back-stop, back-found}
 use Rattle.nsdf.specs.declared.period.Estimate.{Estimate}
 use Rattle.nsdf.specs.declared.period.Estimate.the-variants.{Nothing, Hz}
 use Rattle.powers.specs.Pitch.{stepAt}
-use Rattle.recover.specs.Recovered.{near, joins, startOf, endOf, island, stored, recoveredAt}
+use Rattle.recover.specs.Recovered.{near, joins, starts, startOf, endOf, island, stored, recoveredAt}
 use Rattle.recover.specs.Held.{readOf}
 use Rattle.recover.proofs.Reading.{read-at}
 
@@ -26,70 +23,55 @@ near-nothing Nothing = refl
 near-nothing (Hz p) = refl
 
 module _ (es : List Estimate) where
-  -- a frame with no estimate does not go on with the one before, nor the next one with it
-  pub joins-none : (i : ℕ) → getD es i Nothing ≡ Nothing → joins es i ≡ false
-  joins-none zero e = refl
-  joins-none (suc i) e = ap (near (getD es i Nothing)) e ∙ near-nothing (getD es i Nothing)
+  -- a frame with no estimate starts a stretch, and so does the next one
+  none-starts : (i : ℕ) → getD es i Nothing ≡ Nothing → starts es i ≡ true
+  none-starts zero e = refl
+  none-starts (suc i) e = ap not (ap (near (getD es i Nothing)) e ∙ near-nothing (getD es i Nothing))
 
-  pub none-joins : (i : ℕ) → getD es i Nothing ≡ Nothing → joins es (i + 1) ≡ false
-  none-joins i e = rw add-one (ap (λ (x : Estimate). near x (getD es (suc i) Nothing)) e)
+  next-starts : (i : ℕ) → getD es i Nothing ≡ Nothing → starts es (i + 1) ≡ true
+  next-starts i e = rw add-one (ap (λ (x : Estimate). not (near x (getD es (suc i) Nothing))) e)
 
-  joins-out : (i : ℕ) → length es ≤ i → joins es i ≡ false
-  joins-out i h = joins-none i (List·getD-eq-default es Nothing h)
-
-  pub joins-at : (i : ℕ) → 0 < i → joins es i ≡ near (getD es (i - 1) Nothing) (getD es i Nothing)
+  joins-at : (i : ℕ) → 0 < i → joins es i ≡ near (getD es (i - 1) Nothing) (getD es i Nothing)
   joins-at zero h = absurd (omega arith)
   joins-at (suc i) h =
       let e : suc i - 1 ≡ i = omega arith in
       rw e
 
   -- ---- the stretch of a frame
-  first-cut : (i : ℕ) → First (λ k. not (joins es k)) (i + 1) (length es - (i + 1)) (endOf es i)
-  first-cut i = first-is (λ k. not (joins es k)) (i + 1) (length es - (i + 1))
+  first-after : (i : ℕ) → First (starts es) (i + 1) (length es - (i + 1)) (endOf es i)
+  first-after i = first-is (starts es) (i + 1) (length es - (i + 1))
 
   pub end-above : (i : ℕ) → i < endOf es i
-  end-above i = omega (arith, first-cut i .low)
+  end-above i = omega (arith, first-after i .low)
 
   pub end-within : (i : ℕ) → i < length es → endOf es i ≤ length es
-  end-within i h = omega (arith, first-cut i .high)
+  end-within i h = omega (arith, first-after i .high)
 
-  goes-on : (i k : ℕ) → i < k → k < endOf es i → joins es k ≡ true
-  goes-on i k l h = not-false (joins es k) (first-cut i .before k (omega arith) h)
-
-  pub end-cuts : (i : ℕ) → joins es (endOf es i) ≡ false
-  end-cuts i = go (leb (length es) (endOf es i)) refl
+  pub end-starts : (i : ℕ) → starts es (endOf es i) ≡ true
+  end-starts i = go (leb (length es) (endOf es i)) refl
     where
-      go : (b : Bool) → leb (length es) (endOf es i) ≡ b → joins es (endOf es i) ≡ false
-      go true e = joins-out (endOf es i) (leb-true (length es) (endOf es i) e)
-      go false e = not-true (joins es (endOf es i)) (first-cut i .here (omega (arith, leb-false (length es) (endOf es i) e)))
+      go : (b : Bool) → leb (length es) (endOf es i) ≡ b → starts es (endOf es i) ≡ true
+      go true e = none-starts (endOf es i) (List·getD-eq-default es Nothing (leb-true (length es) (endOf es i) e))
+      go false e = first-after i .here (omega (arith, leb-false (length es) (endOf es i) e))
 
-  pub end-here : (i : ℕ) → joins es (i + 1) ≡ false → endOf es i ≡ i + 1
-  end-here i e = ⊎-elim (λ q. sym q) (λ l. absurd (true≢false (sym (goes-on i (i + 1) (omega arith) l) ∙ e))) (eq-or-lt-of-le (first-cut i .low))
+  -- that of a frame with no estimate is the frame alone
+  module _ (i : ℕ) (e : getD es i Nothing ≡ Nothing) where
+    pub start-alone : startOf es i ≡ i
+    start-alone = sym (back-stop (starts es) i (back-start (starts es) i) (none-starts i e))
 
-  pub start-here : (i : ℕ) → joins es i ≡ false → startOf es i ≡ i
-  unfolding startOf
-  start-here zero e = refl
-  start-here (suc i) e = rw e
-
-  start-on : (i : ℕ) → joins es (suc i) ≡ true → startOf es (suc i) ≡ startOf es i
-  unfolding startOf
-  start-on i e = rw e
+    pub end-alone : endOf es i ≡ i + 1
+    end-alone =
+        sym (first-only (starts es) (i + 1) (length es - (i + 1)) (i + 1) (record { low = omega arith; high = omega arith; before = none-yet (starts es) (i + 1); here = λ h. next-starts i e }))
 
   -- every frame from a stretch's first to before its end has the same two
-  module _ (s : ℕ) (cut : joins es s ≡ false) where
+  module _ (s : ℕ) (first : starts es s ≡ true) where
     starts-same : (k : ℕ) → s ≤ k → k < endOf es s → startOf es k ≡ s
-    unfolding startOf
-    starts-same zero l h = sym (le-zero l)
-    starts-same (suc k) l h =
-        ⊎-elim (λ q. subst (λ (j : ℕ). startOf es j ≡ s) q (start-here s cut)) (λ a. start-on k (goes-on s (suc k) a h) ∙ starts-same k (omega arith) (omega arith)) (eq-or-lt-of-le l)
+    starts-same k l h = sym (back-found (starts es) k (record { high = l; after = λ j p q. first-after s .before j p (omega arith) }) (λ z. first))
 
     ends-same : (k : ℕ) → s ≤ k → k < endOf es s → endOf es k ≡ endOf es s
-    ends-same k l h = go (ltb (endOf es s) (endOf es k)) (ltb (endOf es k) (endOf es s)) refl refl
-      where
-        go : (a b : Bool) → ltb (endOf es s) (endOf es k) ≡ a → ltb (endOf es k) (endOf es s) ≡ b → endOf es k ≡ endOf es s
-        go true b p q = absurd (true≢false (sym (goes-on k (endOf es s) h (ltb-true (endOf es s) (endOf es k) p)) ∙ end-cuts s))
-        go false true p q = absurd (true≢false (sym (goes-on s (endOf es k) (omega (arith, end-above k)) (ltb-true (endOf es k) (endOf es s) q)) ∙ end-cuts k))
-        go false false p q = omega (arith, ltb-false (endOf es s) (endOf es k) p, ltb-false (endOf es k) (endOf es s) q)
+    ends-same k l h =
+        sym (first-only (starts es) (k + 1) (length es - (k + 1)) (endOf es s)
+        (record { low = omega arith; high = omega (arith, first-after s .high); before = λ j p q. first-after s .before j (omega arith) q; here = λ z. end-starts s }))
 
     pub inside-at : (given : List Float) (b : Bool) → island given s (endOf es s) ≡ b
         → (k : ℕ) → s ≤ k → k < endOf es s → recoveredAt given es k ≡ cond b (stored (getD es k Nothing)) (getD given k zeroF)

@@ -8,7 +8,7 @@ use lib.ListN.{length, getD}
 use lib.Ieee.{Float}
 use Rattle.floats.specs.Plain.{zeroF}
 use Rattle.floats.specs.Narrow.{narrow}
-use Rattle.lists.specs.Frames.{tabulate, allFrames, firstFrame}
+use Rattle.lists.specs.Frames.{tabulate, allFrames, firstFrame, lastFrame}
 use Rattle.nsdf.specs.declared.period.Estimate.{Estimate}
 use Rattle.nsdf.specs.declared.period.Estimate.the-variants.{Nothing, Hz}
 use Rattle.nsdf.specs.Period.{periodHz}
@@ -26,14 +26,17 @@ abbrev pub joins : List Estimate → ℕ → Bool
 joins es zero = false
 joins es (suc i) = near (getD es i Nothing) (getD es (suc i) Nothing)
 
--- the first frame of the stretch that frame i is in
-unfoldable pub startOf : List Estimate → ℕ → ℕ
-startOf es zero = zero
-startOf es (suc i) = cond (joins es (suc i)) (startOf es i) (suc i)
+-- frame i starts a stretch
+abbrev pub starts : List Estimate → ℕ → Bool
+starts es i = not (joins es i)
 
--- one past the last frame of the stretch that frame i is in: the next that does not go on with the one before it
+-- the first frame of the stretch that frame i is in
+abbrev pub startOf : List Estimate → ℕ → ℕ
+startOf es = lastFrame (starts es)
+
+-- one past the last frame of the stretch that frame i is in: where the next one starts
 abbrev pub endOf : List Estimate → ℕ → ℕ
-endOf es i = firstFrame (λ k. not (joins es k)) (i + 1) (length es - (i + 1))
+endOf es i = firstFrame (starts es) (i + 1) (length es - (i + 1))
 
 -- none of the k frames from i on has a pitch
 abbrev pub quiet : List Float → ℕ → ℕ → Bool

@@ -26,12 +26,12 @@ abbrev pub wholePart : Float → ℕ
 wholePart rank = toUnsigned 64 rank
 
 -- lo + (rank - below) * (hi - lo), each operation rounded to f64 and the whole to f32
-abbrev pub between : Float → ℕ → Float → Float → Float
-between rank below lo hi = narrow (add binary64 lo (mul binary64 (sub binary64 rank (ofInt binary64 (pos below))) (sub binary64 hi lo)))
+abbrev pub byProportion : Float → ℕ → Float → Float → Float
+byProportion rank below lo hi = narrow (add binary64 lo (mul binary64 (sub binary64 rank (ofInt binary64 (pos below))) (sub binary64 hi lo)))
 
 -- at a rank of a sorted list, between the entry at its whole part and the next, or that entry twice where it is the last
 abbrev pub interpolated : List Float → Float → ℕ → Float
-interpolated s rank below = between rank below (getD s below nan) (getD s (min (below + 1) (length s - 1)) nan)
+interpolated s rank below = byProportion rank below (getD s below nan) (getD s (min (below + 1) (length s - 1)) nan)
 
 -- the 10th percentile of a sorted list
 unfoldable pub tenthOf : List Float → Float

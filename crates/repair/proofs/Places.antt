@@ -17,7 +17,7 @@ use Rattle.lists.specs.Sorted.{count, IsSorted, StrictlyRises}
 use Rattle.lists.proofs.Entries.{each-map, each-append, each-at}
 use Rattle.lists.proofs.Parts.{drop-take, each-take, each-drop}
 use Rattle.lists.proofs.Members.{strict-each}
-use Rattle.repair.specs.Repair.{lastOf, neighbours}
+use Rattle.repair.specs.Repair.{lastFew, neighbours}
 use Rattle.repair.specs.Places.{around}
 use Rattle.lists.proofs.Counting.{count-append}
 
@@ -56,12 +56,12 @@ module _ (hi : ℕ) where
   pub neighbours-at : (lo : ℕ) (run : List ℕ) (p : ℕ) → p < length run → StrictlyRises lo hi run → neighbours run (getD run p 0) ≡ around run p
   unfolding neighbours
   neighbours-at lo run p h s =
-      ap₂ (λ (a b : List ℕ). lastOf 5 a ++ take 5 b) (before-place lo run p h s) (after-place lo run p h s ∙ ap (λ (k : ℕ). drop k run) (sym (add-one p)))
+      ap₂ (λ (a b : List ℕ). lastFew 5 a ++ take 5 b) (before-place lo run p h s) (after-place lo run p h s ∙ ap (λ (k : ℕ). drop k run) (sym (add-one p)))
 
 -- ---- what each entry has, the neighbours of a place have
 pub each-around : {A : Type 0} (P : A → Type 0) (l : List A) (p : ℕ) → Each P l → Each P (around l p)
 each-around P l p e =
-    each-append P (lastOf 5 (take p l)) (take 5 (drop (p + 1) l)) (each-drop P (length (take p l) - 5) (take p l) (each-take P p l e)) (each-take P 5 (drop (p + 1) l) (each-drop P (p + 1) l e))
+    each-append P (lastFew 5 (take p l)) (take 5 (drop (p + 1) l)) (each-drop P (length (take p l) - 5) (take p l) (each-take P p l e)) (each-take P 5 (drop (p + 1) l) (each-drop P (p + 1) l e))
 
 -- a list whose front was sorted before
 sorted-again : {l s r : List ℕ} (t : List ℕ) → IsSorted l s → IsSorted (s ++ t) r → IsSorted (l ++ t) r
@@ -84,7 +84,7 @@ module _ (keys : List ℕ) (p from end : ℕ) (h : p < length keys) (f : from �
   pub back-length : length back ≡ end - (p + 1)
   back-length = length-take-le (end - (p + 1)) (drop (p + 1) keys) (omega (arith, length-drop (p + 1) keys))
 
-  front-is : front ≡ lastOf 5 (take p keys)
+  front-is : front ≡ lastFew 5 (take p keys)
   front-is =
       let l : length (take p keys) - 5 ≡ from = omega (arith, length-take-le p keys (omega arith)) in
       sym (ap (λ (k : ℕ). drop k (take p keys)) l ∙ drop-take from p keys)

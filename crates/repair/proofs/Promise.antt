@@ -8,10 +8,11 @@ use mathlib.Core.List.{List, [], _∷_}
 use mathlib.Core.Logic.{_⊎_, inl, inr, ⊎-elim}
 use lib.Dec.{T, ltb}
 use lib.ListN.{length, List·getD-eq-default}
-use lib.Ieee.{Float, nan, binary32, ne, eq}
+use lib.Ieee.{Float, nan, ne}
 use lib.Ieee.Positive.{positive, between}
 use borrow.Author.Tests.{ltb-true, ltb-false}
-use Rattle.floats.proofs.Zeros.{zero-bits, positive-not-zero}
+use Rattle.floats.specs.Plain.{zeroF}
+use Rattle.floats.proofs.Zeros.{positive-not-zero}
 use Rattle.lists.specs.Results.{keep}
 use Rattle.lists.specs.Marks.{member}
 use Rattle.lists.proofs.Entries.{each-at, at-each}
@@ -20,16 +21,16 @@ use Rattle.powers.specs.Pitch.{hz, Between, PitchOrNone, octaveAt}
 use Rattle.powers.specs.declared.pitch.Octave.{Octave}
 use Rattle.powers.specs.declared.pitch.Octave.the-variants.{Keep, Halve, Double}
 use Rattle.powers.proofs.Repaired.{halved-admitted, doubled-admitted}
-use Rattle.runs.specs.Runs.{none, voiced, voicedFrames, Span, longRuns}
+use Rattle.runs.specs.Runs.{voiced, voicedFrames, Span, longRuns}
 use Rattle.lists.specs.Frames.{at}
-use Rattle.repair.specs.Repair.{Pitches, framesIn, lowerMiddle, upperMiddle, shifted, beside, repairedIn, repairedAmong, repaired}
+use Rattle.repair.specs.Repair.{Pitches, voicedIn, lowerMiddle, upperMiddle, shifted, beside, repairedIn, repairedAmong, repaired}
 use Rattle.repair.proofs.Middles.{wider}
 use Rattle.repair.proofs.Runs.{pitched-at, length-repaired, repaired-at}
 
 -- a pitch is not 0
-positive-voiced : (x : Float) → T (positive x) → ne x none ≡ true
+positive-voiced : (x : Float) → T (positive x) → ne x zeroF ≡ true
 unfolding ne
-positive-voiced x p = ap not (ap (eq x) (zero-bits binary32 false) ∙ positive-not-zero x p)
+positive-voiced x p = ap not (positive-not-zero x p)
 
 shifted-pitch : (o : Octave) (f : Float) → Between 40 2000 f → Between 20 4000 (shifted o f)
 shifted-pitch Keep f h = wider f h
@@ -47,13 +48,13 @@ module _ (pitch : List Float) (a : Pitches 40 2000 pitch) where
   Kept v i = (v ≡ at pitch i) ⊎ ((voiced pitch i ≡ true) × Between 20 4000 v)
 
   kept-among : (rs : List Span) (i : ℕ) → i < length pitch → Kept (repairedAmong pitch rs i) i
-  unfolding repairedAmong framesIn
+  unfolding repairedAmong voicedIn
   kept-among [] i h = inl refl
-  kept-among (r ∷ rs) i h = go (member (framesIn pitch r) i) refl (kept-among rs i h)
+  kept-among (r ∷ rs) i h = go (member (voicedIn pitch r) i) refl (kept-among rs i h)
     where
-      go : (b : Bool) → member (framesIn pitch r) i ≡ b → Kept (repairedAmong pitch rs i) i → Kept (cond b (repairedIn pitch (framesIn pitch r) i) (repairedAmong pitch rs i)) i
+      go : (b : Bool) → member (voicedIn pitch r) i ≡ b → Kept (repairedAmong pitch rs i) i → Kept (cond b (repairedIn pitch (voicedIn pitch r) i) (repairedAmong pitch rs i)) i
       go true e k =
-          let v = each-member (λ j. (r .first ≤ j) × (j < r .first + (r .last + 1 - r .first)) × (voiced pitch j ≡ true)) (framesIn pitch r) i (each-keep (voiced pitch) (r .first) (r .last + 1 - r .first)) e .2 in
+          let v = each-member (λ j. (r .first ≤ j) × (j < r .first + (r .last + 1 - r .first)) × (voiced pitch j ≡ true)) (voicedIn pitch r) i (each-keep (voiced pitch) (r .first) (r .last + 1 - r .first)) e .2 in
           inr (v, beside-pitch (at pitch i) _ (pitched-at 40 2000 pitch a i h v))
       go false e k = k
 
@@ -78,13 +79,13 @@ module _ (pitch : List Float) (a : Pitches 40 2000 pitch) where
           let l = ltb-true i (length pitch) q in
           let e = repaired-at pitch i l in
           ⊎-elim
-          (λ k. ap (λ (p : Float). ne p none) (e ∙ k))
-          (λ k. ap (λ (p : Float). ne p none) e ∙ positive-voiced (repairedAmong pitch (longRuns pitch) i) (between (hz 20) (repairedAmong pitch (longRuns pitch) i) (hz 4000) tt tt (k .1 .0) (k .1 .1)) ∙ sym (k .0))
+          (λ k. ap (λ (p : Float). ne p zeroF) (e ∙ k))
+          (λ k. ap (λ (p : Float). ne p zeroF) e ∙ positive-voiced (repairedAmong pitch (longRuns pitch) i) (between (hz 20) (repairedAmong pitch (longRuns pitch) i) (hz 4000) tt tt (k .1 .0) (k .1 .1)) ∙ sym (k .0))
           (kept-among (longRuns pitch) i l)
       go false q =
           let l = ltb-false i (length pitch) q in
           let m : length (repaired pitch) ≤ i = omega (arith, length-repaired pitch) in
-          ap (λ (p : Float). ne p none) (List·getD-eq-default (repaired pitch) nan m ∙ sym (List·getD-eq-default pitch nan l))
+          ap (λ (p : Float). ne p zeroF) (List·getD-eq-default (repaired pitch) nan m ∙ sym (List·getD-eq-default pitch nan l))
 
   pub repaired-frames : voicedFrames (repaired pitch) ≡ voicedFrames pitch
   unfolding voicedFrames

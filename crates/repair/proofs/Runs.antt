@@ -9,7 +9,8 @@ use mathlib.Core.List.{List, [], _∷_, map}
 use mathlib.Core.Logic.{⊎-elim}
 use lib.ListN.{length, getD}
 use lib.Seq.{ext-getD}
-use lib.Ieee.{Float, nan, ofBits, ne}
+use lib.Ieee.{Float, nan, ne}
+use Rattle.floats.specs.Plain.{zeroF}
 use Rattle.lists.specs.Results.{keep}
 use Rattle.lists.specs.By.{Each}
 use Rattle.lists.specs.Sorted.{StrictlyRises}
@@ -17,35 +18,35 @@ use Rattle.lists.proofs.Entries.{each-map, each-at}
 use Rattle.lists.proofs.Tabulated.{length-tabulate, tabulate-at}
 use Rattle.lists.proofs.Members.{each-keep, keep-rises, strict-from}
 use Rattle.powers.specs.Pitch.{Between, PitchOrNone}
-use Rattle.runs.specs.Runs.{none, voiced, voicedFrames, Span, spans, longRuns, Spaced}
+use Rattle.runs.specs.Runs.{voiced, voicedFrames, Span, spans, longRuns, Spaced}
 use Rattle.runs.proofs.Spacing.{long-spaced}
 use Rattle.runs.proofs.Spans.{runAt, spansFrom, spans-step, spans-over}
 use Rattle.lists.specs.Frames.{at}
-use Rattle.repair.specs.Repair.{Pitches, framesIn, repairedAmong, repaired}
+use Rattle.repair.specs.Repair.{Pitches, voicedIn, repairedAmong, repaired}
 use Rattle.repair.specs.Places.{keyAt, Gathered, LongIn, RunWritten}
 use Rattle.repair.proofs.Sizes.{keep-part, long-run-frames}
 
 -- ---- a run
 module _ (lo hi : ℕ) (pitch : List Float) (a : Pitches lo hi pitch) where
   pub pitched-at : (i : ℕ) → i < length pitch → voiced pitch i ≡ true → Between lo hi (at pitch i)
-  unfolding ne ofBits
+  unfolding ne
   pitched-at i h v =
-      ⊎-elim (λ e. absurd (true≢false (sym v ∙ ap (λ (p : Float). ne p none) e))) (λ b. b)
+      ⊎-elim (λ e. absurd (true≢false (sym v ∙ ap (λ (p : Float). ne p zeroF) e))) (λ b. b)
       (each-at (PitchOrNone lo hi) pitch nan a i h)
 
 module _ (pitch : List Float) (r : Span) (a : Pitches 40 2000 pitch) (l : LongIn pitch r) where
-  frames-pitched : Each (λ i. Between 40 2000 (at pitch i)) (framesIn pitch r)
-  unfolding framesIn
+  frames-pitched : Each (λ i. Between 40 2000 (at pitch i)) (voicedIn pitch r)
+  unfolding voicedIn
   frames-pitched =
       each-map (λ i. (r .first ≤ i) × (i < r .first + (r .last + 1 - r .first)) × (voiced pitch i ≡ true)) (λ i. Between 40 2000 (at pitch i))
       (λ i h. pitched-at 40 2000 pitch a i (omega (arith, h .1, l .order, l .within)) (h .2))
-      (framesIn pitch r) (each-keep (voiced pitch) (r .first) (r .last + 1 - r .first))
+      (voicedIn pitch r) (each-keep (voiced pitch) (r .first) (r .last + 1 - r .first))
 
-  pub frames-rise : StrictlyRises 0 (length pitch) (framesIn pitch r)
-  unfolding framesIn
-  frames-rise = strict-from 0 (r .first) (length pitch) (framesIn pitch r) (omega arith) (keep-rises (voiced pitch) (length pitch) (r .first) (r .last + 1 - r .first) (omega (arith, l .order, l .within)))
+  pub frames-rise : StrictlyRises 0 (length pitch) (voicedIn pitch r)
+  unfolding voicedIn
+  frames-rise = strict-from 0 (r .first) (length pitch) (voicedIn pitch r) (omega arith) (keep-rises (voiced pitch) (length pitch) (r .first) (r .last + 1 - r .first) (omega (arith, l .order, l .within)))
 
-  pub gathered : Gathered pitch (framesIn pitch r) (map (keyAt pitch) (framesIn pitch r))
+  pub gathered : Gathered pitch (voicedIn pitch r) (map (keyAt pitch) (voicedIn pitch r))
   gathered = record { rises = frames-rise; several = omega (arith, l .frames); pitched = frames-pitched; places = refl }
 
 -- ---- runs by their first and last frames
@@ -71,7 +72,7 @@ module _ (pitch : List Float) (fs ls : List ℕ) where
   runs-turn k old new h e w t i = t i ∙ rw (spans-step fs ls k h (omega arith), w i)
 
 -- ---- the long runs of a track
-each-spaced : (pitch : List Float) (lo : ℕ) (rs : List Span) → Spaced lo (length pitch) rs → Each (λ r. 5 ≤ length (framesIn pitch r)) rs → Each (LongIn pitch) rs
+each-spaced : (pitch : List Float) (lo : ℕ) (rs : List Span) → Spaced lo (length pitch) rs → Each (λ r. 5 ≤ length (voicedIn pitch r)) rs → Each (LongIn pitch) rs
 each-spaced pitch lo [] s f = tt
 each-spaced pitch lo (r ∷ rs) s f = (record { order = s .1; within = s .2; frames = f .0 }, each-spaced pitch (r .last + 4) rs (s .3) (f .1))
 
@@ -92,7 +93,7 @@ whole pitch track e w = ext-getD nan track (repaired pitch) (e ∙ sym (length-r
 
 -- with fewer than 5 voiced frames there is no long run
 pub few-stay : (pitch : List Float) → length (voicedFrames pitch) < 5 → pitch ≡ repaired pitch
-unfolding voicedFrames framesIn repairedAmong
+unfolding voicedFrames voicedIn repairedAmong
 few-stay pitch h = whole pitch pitch refl (λ i. ap (λ (rs : List Span). repairedAmong pitch rs i) (sym (none-long (longRuns pitch) (long-runs-long pitch refl refl))))
   where
     none-long : (rs : List Span) → Each (LongIn pitch) rs → rs ≡ []

@@ -14,7 +14,7 @@ use Rattle.lists.proofs.Fill.{keep-split}
 use Rattle.runs.specs.declared.voiced.Run.{Run}
 use Rattle.lists.specs.Grouped.{attach, grouped}
 use Rattle.runs.specs.Runs.{span, voiced, voicedFrames, sole, close, joined, voicedRuns, long, longRuns}
-use Rattle.repair.specs.Repair.{framesIn}
+use Rattle.repair.specs.Repair.{voicedIn}
 
 module _ (t : ℕ → Bool) where
   keep-first : (i k : ℕ) → t i ≡ true → keep t i (suc k) ≡ i ∷ keep t (suc i) k
@@ -84,13 +84,13 @@ module _ (t : ℕ → Bool) where
       go false e h = (h .0, begins-on i runs e (h .1))
 
 module _ (pitch : List Float) where
-  pub run-sizes : Each (λ r. length (framesIn pitch (span r)) ≡ r .size) (voicedRuns pitch)
-  unfolding framesIn voicedRuns voicedFrames
+  pub run-sizes : Each (λ r. length (voicedIn pitch (span r)) ≡ r .size) (voicedRuns pitch)
+  unfolding voicedIn voicedRuns voicedFrames
   run-sizes = sizes-from (voiced pitch) 0 (length pitch) .0
 
-  pub long-run-frames : Each (λ r. 5 ≤ length (framesIn pitch r)) (longRuns pitch)
+  pub long-run-frames : Each (λ r. 5 ≤ length (voicedIn pitch r)) (longRuns pitch)
   unfolding longRuns
   long-run-frames =
-      each-of-map (λ r. 5 ≤ length (framesIn pitch r)) span (filter long (voicedRuns pitch))
-      (each-both (λ r. length (framesIn pitch (span r)) ≡ r .size) (λ r. long r ≡ true) (λ r. 5 ≤ length (framesIn pitch (span r))) (λ r e l. omega (arith, e, leb-true 5 (r .size) l))
-      (filter long (voicedRuns pitch)) (each-kept (λ r. length (framesIn pitch (span r)) ≡ r .size) long (voicedRuns pitch) run-sizes) (each-filter long (voicedRuns pitch)))
+      each-of-map (λ r. 5 ≤ length (voicedIn pitch r)) span (filter long (voicedRuns pitch))
+      (each-both (λ r. length (voicedIn pitch (span r)) ≡ r .size) (λ r. long r ≡ true) (λ r. 5 ≤ length (voicedIn pitch (span r))) (λ r e l. omega (arith, e, leb-true 5 (r .size) l))
+      (filter long (voicedRuns pitch)) (each-kept (λ r. length (voicedIn pitch (span r)) ≡ r .size) long (voicedRuns pitch) run-sizes) (each-filter long (voicedRuns pitch)))

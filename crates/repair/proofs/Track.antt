@@ -19,7 +19,7 @@ use Rattle.lists.proofs.Parts.{take-map, drop-map}
 use Rattle.lists.proofs.Members.{strict-few, member-over}
 use Rattle.powers.specs.Pitch.{Between}
 use Rattle.lists.specs.Frames.{at}
-use Rattle.repair.specs.Repair.{lastOf, beside, repairedIn}
+use Rattle.repair.specs.Repair.{lastFew, beside, repairedIn}
 use Rattle.repair.specs.Places.{around, PitchPlace, keyAt, Gathered, Written}
 use Rattle.repair.proofs.Places.{neighbours-at}
 
@@ -55,7 +55,7 @@ module _ (value : ℕ → Float) (frames : List ℕ) (old : List Float) where
 module _ {A B : Type 0} (g : A → B) where
   map-around : (l : List A) (p : ℕ) → map g (around l p) ≡ around (map g l) p
   map-around l p =
-      map-append g (lastOf 5 (take p l)) (take 5 (drop (p + 1) l))
+      map-append g (lastFew 5 (take p l)) (take 5 (drop (p + 1) l))
       ∙ ap₂ (λ (x y : List B). x ++ y)
       (sym (drop-map g (length (take p l) - 5) (take p l)) ∙ ap₂ (λ (k : ℕ) (z : List B). drop (k - 5) z) (sym (length-map (take p l) g) ∙ ap length (sym (take-map g p l))) (sym (take-map g p l)))
       (sym (take-map g 5 (drop (p + 1) l)) ∙ ap (take 5) (sym (drop-map g (p + 1) l)))

@@ -14,11 +14,11 @@ use Rattle.lists.specs.Sorted.{StrictlyRises}
 use Rattle.powers.specs.Pitch.{Between}
 use Rattle.runs.specs.Runs.{Span}
 use Rattle.lists.specs.Frames.{at}
-use Rattle.repair.specs.Repair.{framesIn, lastOf, repairedIn}
+use Rattle.repair.specs.Repair.{voicedIn, lastFew, repairedIn}
 
 -- the neighbours of the frame at place p of a run: of the run's frames, or of what belongs to each of them
 abbrev pub around : {A : Type 0} → List A → ℕ → List A
-around run p = lastOf 5 (take p run) ++ take 5 (drop (p + 1) run)
+around run p = lastFew 5 (take p run) ++ take 5 (drop (p + 1) run)
 
 -- k is the place of a pitch from 40 to 2,000 Hz in the total order
 abbrev pub PitchPlace : ℕ → Type 0
@@ -43,7 +43,7 @@ pub record Gathered (pitch : List Float) (frames keys : List ℕ) : Type 0 where
 pub record LongIn (pitch : List Float) (r : Span) : Type 0 where
   pub order : r .first ≤ r .last
   pub within : r .last < length pitch
-  pub frames : 5 ≤ length (framesIn pitch r)
+  pub frames : 5 ≤ length (voicedIn pitch r)
 
 -- what a call leaves that writes a value for each of the frames: `old` is lent, `new` comes back
 abbrev pub Written : (ℕ → Float) → List ℕ → List Float → List Float → Type 0
@@ -51,4 +51,4 @@ Written value frames old new = (i : ℕ) → getD new i nan ≡ cond (member fra
 
 -- such a call for the voiced frames of a run, with their repaired pitches
 abbrev pub RunWritten : List Float → Span → List Float → List Float → Type 0
-RunWritten pitch r = Written (repairedIn pitch (framesIn pitch r)) (framesIn pitch r)
+RunWritten pitch r = Written (repairedIn pitch (voicedIn pitch r)) (voicedIn pitch r)

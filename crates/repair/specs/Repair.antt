@@ -21,16 +21,16 @@ abbrev pub Pitches : ℕ → ℕ → List Float → Type 0
 Pitches lo hi = Each (PitchOrNone lo hi)
 
 -- the voiced frames of a run, in order
-unfoldable pub framesIn : List Float → Span → List ℕ
-framesIn pitch r = keep (voiced pitch) (r .first) (r .last + 1 - r .first)
+unfoldable pub voicedIn : List Float → Span → List ℕ
+voicedIn pitch r = keep (voiced pitch) (r .first) (r .last + 1 - r .first)
 
 -- the last k entries of a list; all of a shorter one
-abbrev pub lastOf : {A : Type 0} → ℕ → List A → List A
-lastOf k l = drop (length l - k) l
+abbrev pub lastFew : {A : Type 0} → ℕ → List A → List A
+lastFew k l = drop (length l - k) l
 
 -- the neighbours of frame i in a run, given by its voiced frames: the last 5 before i and the first 5 after i, or as many as there are
 unfoldable pub neighbours : List ℕ → ℕ → List ℕ
-neighbours run i = lastOf 5 (filter (λ j. ltb j i) run) ++ take 5 (filter (λ j. ltb i j) run)
+neighbours run i = lastFew 5 (filter (λ j. ltb j i) run) ++ take 5 (filter (λ j. ltb i j) run)
 
 -- the lower of the two middle values in IEEE 754's total order; of an odd count, the middle one
 abbrev pub lowerMiddle : List Float → Float
@@ -57,7 +57,7 @@ repairedIn pitch run i = beside (at pitch i) (map (at pitch) (neighbours run i))
 -- frame i: repaired in the run that it is a voiced frame of; where there is none, its pitch stays
 unfoldable pub repairedAmong : List Float → List Span → ℕ → Float
 repairedAmong pitch [] i = at pitch i
-repairedAmong pitch (r ∷ rs) i = cond (member (framesIn pitch r) i) (repairedIn pitch (framesIn pitch r) i) (repairedAmong pitch rs i)
+repairedAmong pitch (r ∷ rs) i = cond (member (voicedIn pitch r) i) (repairedIn pitch (voicedIn pitch r) i) (repairedAmong pitch rs i)
 
 -- the repaired track, frame by frame
 unfoldable pub repaired : List Float → List Float

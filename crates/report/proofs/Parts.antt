@@ -15,9 +15,9 @@ use Rattle.region.specs.declared.Region.{Region}
 use Rattle.region.specs.declared.Region.the-variants.{Nowhere, Span}
 use Rattle.nuclei.specs.Nuclei.{Nucleus, framesOf, strengthsOf}
 use Rattle.chain.specs.Chain.{Take, Lists, Left, pitchesOf, readingIn, readingOf, written, leftBy, leaves, chainOf}
-use Rattle.chain.specs.Chain.{refusalOf as chainRefusalOf}
-use Rattle.take.specs.File.{framesIn, refusalOf, records, trackAt, takeIn, readTake}
-use Rattle.take.specs.File.{Take as FileTake}
+use Rattle.chain.specs.Chain.{refusalOf}
+use Rattle.take.specs.File.{frameCount, fileRefusal, records, trackAt, takeIn, readTake}
+use Rattle.take.specs.File.{FileTake}
 use Rattle.take.specs.Listing.{listing, refusedListing, largestListing}
 use Rattle.take.specs.Listing.{Marks as Told}
 use Rattle.take.proofs.Sizes.{listing-fits}
@@ -54,12 +54,12 @@ module _ (t : Take) (l : Lists) where
   abbrev pub Whole : Type 0
   Whole = let n = length (t .pitch) in (length (l .frames) ≡ n) × (length (l .strengths) ≡ n) × (length (l .xframes) ≡ n) × (length (l .xstrengths) ≡ n) × (length (l .edges) ≡ n) × (length (l .bounds) ≡ n + 1)
 
-  refusal-same : Whole → chainRefusalOf t l ≡ refusalIn t
+  refusal-same : Whole → refusalOf t l ≡ refusalIn t
   refusal-same h = rw (h .0, h .1, h .2, h .3, h .4, h .5)
 
   pub shown-text : Whole → shown (t .pitch) (chainOf t l) ≡ textOf t
   unfolding chainOf textOf
-  shown-text h = shown-by (chainRefusalOf t l) ∙ ap (textBy t) (refusal-same h)
+  shown-text h = shown-by (refusalOf t l) ∙ ap (textBy t) (refusal-same h)
 
 -- ---- lists and tracks that are lent by parts
 -- the part of a blank list that a take of n frames is lent
@@ -67,14 +67,14 @@ pub part-length : {A : Type 0} (l : List A) (k n m : ℕ) → length l ≡ m →
 part-length l k n m e h i = length-take k l ∙ omega arith
 
 -- blank lists, of which the take is lent what it needs
-module _ (t : Take) (few : length (t .pitch) ≤ 2048) (f : List ℕ) (s : List Float) (x : List ℕ) (y : List Float) (e b : List ℕ) (hf : length f ≡ 2049) (hs : length s ≡ 2048) (hx : length x ≡ 2049) (hy : length y ≡ 2048) (he : length e ≡ 2049) (hb : length b ≡ 2049) where
+module _ (t : Take) (few : length (t .pitch) ≤ 2048) (f : List ℕ) (s : List Float) (x : List ℕ) (y : List Float) (e b : List ℕ) (hf : length f ≡ 2048) (hs : length s ≡ 2048) (hx : length x ≡ 2048) (hy : length y ≡ 2048) (he : length e ≡ 2048) (hb : length b ≡ 2049) where
   abbrev pub parts : Lists
   parts = let n = length (t .pitch) in record { frames = take n f; strengths = take n s; xframes = take n x; xstrengths = take n y; edges = take n e; bounds = take (n + 1) b }
 
   whole : Whole t parts
   whole =
       let n = length (t .pitch) in
-      (part-length f n n 2049 hf refl (omega arith), part-length s n n 2048 hs refl few, part-length x n n 2049 hx refl (omega arith), part-length y n n 2048 hy refl few, part-length e n n 2049 he refl (omega arith), part-length b (n + 1) (n + 1) 2049 hb refl (omega arith))
+      (part-length f n n 2048 hf refl few, part-length s n n 2048 hs refl few, part-length x n n 2048 hx refl few, part-length y n n 2048 hy refl few, part-length e n n 2048 he refl few, part-length b (n + 1) (n + 1) 2049 hb refl (omega arith))
 
   pub parts-room : Fitting (length (t .pitch)) parts
   parts-room = let h = whole in record { few = few; frames = le-of-eq (h .0); strengths = h .1 ∙ sym (h .0); xframes = le-of-eq (h .2); xstrengths = h .3 ∙ sym (h .2); edges = le-of-eq (h .4); bounds = le-of-eq (h .5) }
@@ -137,14 +137,14 @@ module _ (given : List Float) (o : Left) where
 -- ---- a file
 module _ (file : List ℕ) where
   -- the pitches that are read twice are the same
-  pub pitches-same : {t : FileTake} {given : List Float} {n : ℕ} → n ≡ framesIn file → given ≡ trackAt 4 (records n (drop 19 file)) → t ≡ takeIn file → given ≡ t .pitch
+  pub pitches-same : {t : FileTake} {given : List Float} {n : ℕ} → n ≡ frameCount file → given ≡ trackAt 4 (records n (drop 19 file)) → t ≡ takeIn file → given ≡ t .pitch
   unfolding takeIn
   pitches-same {t} {given} {n} h g e = g ∙ ap (λ (k : ℕ). trackAt 4 (records k (drop 19 file))) h ∙ sym (ap (λ (z : FileTake). z .pitch) e)
 
-  pub taken-printed : (total : ℕ) → refusalOf file total ≡ 0 → textOf (unsampled (takeIn file)) ≡ printed file total
+  pub taken-printed : (total : ℕ) → fileRefusal file total ≡ 0 → textOf (unsampled (takeIn file)) ≡ printed file total
   unfolding printed readTake
-  taken-printed total h = rw (eq-eqb (refusalOf file total) 0 h)
+  taken-printed total h = rw (eq-eqb (fileRefusal file total) 0 h)
 
-  pub refused-printed : (total : ℕ) → (refusalOf file total ≡ 0 → ⊥) → refusedListing (refusalOf file total) ≡ printed file total
+  pub refused-printed : (total : ℕ) → (fileRefusal file total ≡ 0 → ⊥) → refusedListing (fileRefusal file total) ≡ printed file total
   unfolding printed readTake
-  refused-printed total h = rw (ne-eqb (refusalOf file total) 0 h)
+  refused-printed total h = rw (ne-eqb (fileRefusal file total) 0 h)

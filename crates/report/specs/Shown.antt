@@ -9,8 +9,8 @@ use lib.Ieee.{Float}
 use Rattle.nuclei.specs.Nuclei.{framesOf, strengthsOf}
 use Rattle.chain.specs.Chain.{Take, Reading, Lists, Left, takeOf, readingOf, answered, refusalFor}
 use Rattle.take.specs.File.{readTake}
-use Rattle.take.specs.File.{Take as FileTake, Reading as FileReading}
-use Rattle.take.specs.File.Reading.{refused, taken}
+use Rattle.take.specs.File.{FileTake, FileReading}
+use Rattle.take.specs.File.FileReading.{refused, taken}
 use Rattle.take.specs.Listing.{listing, refusedListing}
 use Rattle.take.specs.Listing.{Marks as Told}
 

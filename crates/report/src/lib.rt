@@ -1,5 +1,6 @@
 // What the program `marks` prints, on bytes: a take file in, its listing out.
 use chain::Marks;
+use lists::blank::blank_list;
 use lists::blank::blank_track;
 use lists::sizes::smaller;
 use region::Settings;
@@ -15,7 +16,7 @@ ghost use mathlib.Core.List.{[]};
 ghost use lib.ListN.{length};
 ghost use Rattle.lists.specs.Results.{Listed};
 ghost use Rattle.chain.specs.Chain.{takeOf, listsOf, chainOf};
-ghost use Rattle.take.specs.File.{framesIn, takeIn};
+ghost use Rattle.take.specs.File.{frameCount, takeIn};
 ghost use Rattle.take.specs.Listing.{largestListing};
 ghost use Rattle.report.specs.Shown.{textOf, unsampled, printed, shown, Fitting};
 
@@ -25,8 +26,8 @@ fn blank_marks() -> [u8; 2048]
     [0u8; 2048]
 }
 
-// One entry more than a take has frames, as boundaries may have.
-fn blank_list() -> [u32; 2049]
+// A take has up to one boundary more than frames.
+fn blank_bounds() -> [u32; 2049]
     ensures { λ r. ⌜ length r ≡ 2049 ⌝ }
 {
     [0u32; 2049]
@@ -160,7 +161,7 @@ fn with_lists(
     let mut xframes = blank_list();
     let mut xstrengths = blank_track();
     let mut edges = blank_list();
-    let mut bounds = blank_list();
+    let mut bounds = blank_bounds();
     list_marks(
         given,
         db,
@@ -190,10 +191,10 @@ fn on_tracks(
     vowel: &mut [u8],
     out: &mut [u8],
 ) -> usize
-    requires { ⌜ (framesIn (now file) ≤ 2048) × (19 + 17 * framesIn (now file) ≤ length (now file)) ⌝ }
-    requires { ⌜ (length (now db) ≡ framesIn (now file)) × (length (now pitch) ≡ framesIn (now file))
-        × (length (now voiced) ≡ framesIn (now file)) × (length (now sonority) ≡ framesIn (now file))
-        × (length (now vowel) ≡ framesIn (now file)) × (length (now given) ≡ framesIn (now file)) ⌝ }
+    requires { ⌜ (frameCount (now file) ≤ 2048) × (19 + 17 * frameCount (now file) ≤ length (now file)) ⌝ }
+    requires { ⌜ (length (now db) ≡ frameCount (now file)) × (length (now pitch) ≡ frameCount (now file))
+        × (length (now voiced) ≡ frameCount (now file)) × (length (now sonority) ≡ frameCount (now file))
+        × (length (now vowel) ≡ frameCount (now file)) × (length (now given) ≡ frameCount (now file)) ⌝ }
     requires { ⌜ largestListing ≤ length (now out) ⌝ }
     ensures { λ r. ⌜ Listed (textOf (unsampled (takeIn (now (file .entry))))) (now (out .entry)) (now (out .exit)) r ⌝ }
 {
@@ -204,7 +205,7 @@ fn on_tracks(
 
 // Lends the tracks, each as long as the take.
 fn with_tracks(file: &[u8], out: &mut [u8]) -> usize
-    requires { ⌜ (framesIn (now file) ≤ 2048) × (19 + 17 * framesIn (now file) ≤ length (now file)) ⌝ }
+    requires { ⌜ (frameCount (now file) ≤ 2048) × (19 + 17 * frameCount (now file) ≤ length (now file)) ⌝ }
     requires { ⌜ largestListing ≤ length (now out) ⌝ }
     ensures { λ r. ⌜ Listed (textOf (unsampled (takeIn (now (file .entry))))) (now (out .entry)) (now (out .exit)) r ⌝ }
 {

@@ -5,7 +5,7 @@ use native.Mathlib.Omega.{arith}
 use mathlib.Core.Path.{_≡_, refl}
 use mathlib.Core.Bool.{Bool, true, false, not, cond}
 use mathlib.Core.List.{List, [], _∷_, map}
-use lib.ListN.{length, length-map}
+use lib.ListN.{length, take, length-map}
 use lib.Ieee.{Float}
 use borrow.Author.Tests.{leb-false}
 use Rattle.lists.specs.Results.{consIf, filter}
@@ -15,15 +15,16 @@ use Rattle.lists.proofs.Entries.{each-kept}
 use Rattle.lists.proofs.Members.{keep-rises}
 use Rattle.runs.specs.declared.voiced.Run.{Run}
 use Rattle.lists.specs.Grouped.{attach, grouped}
-use Rattle.runs.specs.Runs.{Span, span, voiced, voicedFrames, sole, close, joined, voicedRuns, long, longRuns, Within, Spaced}
+use Rattle.runs.specs.Runs.{Span, span, voiced, voicedFrames, sole, close, joined, voicedRuns, long, longRuns, InTrack, Spaced, SpansIn, SpansListed}
 use Rattle.runs.specs.Syllables.{breaksFrom, unbroken, across, syllablesOf, syllableRuns, gaps, dropoutsOf, dropouts}
+use Rattle.runs.proofs.Spans.{written, holds-in}
 
 -- ---- runs that are spaced
 pub spaced-from : (lo lo' n : ℕ) (rs : List Span) → lo ≤ lo' → Spaced lo' n rs → Spaced lo n rs
 spaced-from lo lo' n [] h s = tt
 spaced-from lo lo' n (r ∷ rs) h s = (omega (arith, s .0), s .1, s .2, s .3)
 
-pub spaced-within : (lo n : ℕ) (rs : List Span) → Spaced lo n rs → Within n rs
+pub spaced-within : (lo n : ℕ) (rs : List Span) → Spaced lo n rs → InTrack n rs
 spaced-within lo n [] s = tt
 spaced-within lo n (r ∷ rs) s = ((s .1, s .2), spaced-within (r .last + 4) n rs (s .3))
 
@@ -98,6 +99,12 @@ module _ (pitch : List Float) where
 
   pub syllable-few : length (syllableRuns pitch) ≤ length pitch
   syllable-few = omega (arith, spaced-few 0 (length pitch) (syllableRuns pitch) (omega arith) syllable-spaced)
+
+  -- ---- the lists that the long runs are written to are lent as runs of the track
+  pub long-lent : {first₀ first last₀ last : List ℕ} {n : ℕ} → SpansListed (longRuns pitch) first₀ first last₀ last n → SpansIn (length pitch) (take n first) (take n last) × (length (take n first) ≤ length pitch)
+  long-lent l =
+      let w = written (longRuns pitch) l in
+      (holds-in (length pitch) w (spaced-within 0 (length pitch) (longRuns pitch) long-spaced), omega (arith, w .firsts-many, long-few))
 
   -- ---- dropouts
   pub dropout-wide : Each (λ g. (g .first + 3 < g .last) × (g .last < length pitch)) (dropouts pitch)

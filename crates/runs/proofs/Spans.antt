@@ -8,7 +8,7 @@ use mathlib.Core.List.{List, [], _∷_}
 use lib.ListN.{length, getD, set, take, drop, length-map, drop-of-length-le}
 use Rattle.lists.specs.Results.{Pushed, consIf}
 use Rattle.lists.proofs.Fill.{Filling, fill-start, fill-length, fill-fits, fill-push, fill-fitsIf, fill-pushed, fill-end, map-consIf, drop-step, listed-take}
-use Rattle.runs.specs.Runs.{Span, spans, firsts, lasts, Within, SpansIn, SpansListed}
+use Rattle.runs.specs.Runs.{Span, spans, firsts, lasts, InTrack, SpansIn, SpansListed}
 
 pub spans-of : (rs : List Span) → spans (firsts rs) (lasts rs) ≡ rs
 unfolding spans
@@ -37,7 +37,7 @@ module _ (fs ls : List ℕ) where
     unfolding spans
     spans-over h = rw (drop-of-length-le fs h)
 
-pub within-at : (n : ℕ) (fs ls : List ℕ) → length fs ≡ length ls → Within n (spans fs ls) → (k : ℕ) → k < length fs → (getD fs k 0 < n) × (getD ls k 0 < n)
+pub within-at : (n : ℕ) (fs ls : List ℕ) → length fs ≡ length ls → InTrack n (spans fs ls) → (k : ℕ) → k < length fs → (getD fs k 0 < n) × (getD ls k 0 < n)
 unfolding spans
 within-at n [] ls e w k h = absurd (omega arith)
 within-at n (f ∷ fs) [] e w k h = absurd (omega arith)
@@ -56,11 +56,11 @@ written rs w =
     let l = listed-take (w .1) in
     record { firsts-many = ap length f ∙ length-map rs _; lasts-many = ap length l ∙ length-map rs _; runs = ap₂ spans f l ∙ spans-of rs }
 
-pub holds-within : {rs : List Span} {fs ls : List ℕ} (n : ℕ) → Holds rs fs ls → Within n rs → Within n (spans fs ls)
-holds-within n h w = subst (Within n) (sym (h .runs)) w
+pub holds-within : {rs : List Span} {fs ls : List ℕ} (n : ℕ) → Holds rs fs ls → InTrack n rs → InTrack n (spans fs ls)
+holds-within n h w = subst (InTrack n) (sym (h .runs)) w
 
 -- two lists that hold runs of a track are lent as such
-pub holds-in : {rs : List Span} {fs ls : List ℕ} (n : ℕ) → Holds rs fs ls → Within n rs → SpansIn n fs ls
+pub holds-in : {rs : List Span} {fs ls : List ℕ} (n : ℕ) → Holds rs fs ls → InTrack n rs → SpansIn n fs ls
 holds-in n h w = (h .firsts-many ∙ sym (h .lasts-many), holds-within n h w)
 
 -- ---- runs written one after the other

@@ -11,6 +11,7 @@ use lib.Ieee.{Float, nan, ne}
 use lib.Bits.{bitOr}
 use lib.Dec.{ltb}
 use borrow.Author.Tests.{le-leb, lt-leb, ltb-true, ltb-false}
+use Rattle.floats.specs.Plain.{zeroF}
 use Rattle.lists.specs.Results.{Pushed, consIf, moreIf, filter}
 use Rattle.lists.specs.Sorted.{StrictlyRises}
 use Rattle.lists.proofs.Fill.{Filling, fill-start, fill-push, fill-fits, fill-end, map-consIf, keep-step, keep-over}
@@ -18,7 +19,7 @@ use Rattle.lists.proofs.Members.{keep-rises}
 use Rattle.lists.proofs.Counting.{neither}
 use Rattle.runs.specs.declared.voiced.Run.{Run}
 use Rattle.lists.specs.Grouped.{attach, grouped, Unions}
-use Rattle.runs.specs.Runs.{span, none, voiced, voicedFrames, sole, close, joined, voicedRuns, long, longRuns, SpansListed, RunsListed}
+use Rattle.runs.specs.Runs.{span, voiced, voicedFrames, sole, close, joined, voicedRuns, long, longRuns, SpansListed, RunsListed}
 use Rattle.runs.specs.Ahead.{framesFrom, runsFrom, NextVoiced}
 use Rattle.lists.proofs.Grouping.{Joins, attach-join, attach-cut, grouped-unions}
 use Rattle.runs.proofs.Spacing.{voiced-few, long-few}
@@ -82,7 +83,7 @@ module _ (pitch : List Float) where
   }
 
   module _ {f : ℕ} {run : Run} {end i : ℕ} (g : Growing f run end i) where
-    pub growing-on : i < end → (run' : Run) (end' : ℕ) → run' ≡ cond (ne (getD pitch i nan) none) (joined run (sole i)) run → end' ≡ min (run' .last + 4) (length pitch) → Growing f run' end' (i + 1)
+    pub growing-on : i < end → (run' : Run) (end' : ℕ) → run' ≡ cond (ne (getD pitch i nan) zeroF) (joined run (sole i)) run → end' ≡ min (run' .last + 4) (length pitch) → Growing f run' end' (i + 1)
     unfolding runsFrom
     growing-on h run' end' p q = go (voiced pitch i) refl
       where

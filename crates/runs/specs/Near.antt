@@ -3,7 +3,7 @@ use Prim.Native.Nat.{ℕ, _+_, _-_, _≤_, _<_, max}
 use mathlib.Core.Path.{_≡_}
 use mathlib.Core.Bool.{Bool, true, false, not, cond}
 use mathlib.Core.List.{List, [], _∷_, _++_}
-use lib.Dec.{ltb, eqb}
+use lib.Dec.{eqb}
 use lib.ListN.{length}
 use Rattle.lists.specs.By.{Each}
 use Rattle.runs.specs.Runs.{Span}
@@ -14,16 +14,20 @@ use Rattle.runs.specs.declared.near.Found.the-variants.{At, Nothing}
 abbrev pub distance : Span → ℕ → ℕ
 distance r at = max (r .first - at) (at - r .last)
 
--- among runs, numbered from k, the first of the nearest to a frame, if it is nearer than d; else best
-unfoldable pub nearest : ℕ → ℕ → ℕ → Found → List Span → Found
-nearest at k d best [] = best
-nearest at k d best (r ∷ rs) =
-    let nearer = ltb (distance r at) d in
-    nearest at (k + 1) (cond nearer (distance r at) d) (cond nearer (At k (r .first) (r .last)) best) rs
+-- of runs, numbered from k, the first that is d frames away from a frame: its index, its first and its last frame
+unfoldable pub awayBy : ℕ → ℕ → ℕ → List Span → Found
+awayBy d at k [] = Nothing
+awayBy d at k (r ∷ rs) = cond (eqb (distance r at) d) (At k (r .first) (r .last)) (awayBy d at (k + 1) rs)
 
--- the nearest of the runs up to 2 frames away, of two as near the first: its index, its first and its last frame
+-- what is found first, or else what is found second
+infixl 40 _orElse_
+abbrev pub _orElse_ : Found → Found → Found
+At k first last orElse other = At k first last
+Nothing orElse other = other
+
+-- the run that a frame belongs to: the first that it lies in, or else the first that is 1 frame away, or else the first that is 2 away
 unfoldable pub runOf : List Span → ℕ → Found
-runOf rs at = nearest at 0 3 Nothing rs
+runOf rs at = awayBy 0 at 0 rs orElse awayBy 1 at 0 rs orElse awayBy 2 at 0 rs
 
 -- a run is found
 abbrev pub found : Found → Bool
@@ -45,7 +49,7 @@ differ Nothing f = false
 unfoldable pub separate : List Span → ℕ → ℕ → Bool
 separate rs a b = differ (runOf rs a) (runOf rs b)
 
--- ---- what is found, without the search
+-- ---- what is found
 -- r, the k-th of the runs, is within 2 frames; no run before it is as near, and none after it is nearer
 pub record Nearest (at : ℕ) (rs : List Span) (k : ℕ) (r : Span) : Type 0 where
   pub earlier : List Span

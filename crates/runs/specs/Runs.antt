@@ -5,19 +5,16 @@ use mathlib.Core.Bool.{Bool}
 use mathlib.Core.List.{List, [], _∷_, map}
 use lib.ListN.{length, getD}
 use lib.Dec.{leb}
-use lib.Ieee.{Float, nan, binary32, ofBits, ne}
+use lib.Ieee.{Float, nan, ne}
+use Rattle.floats.specs.Plain.{zeroF}
 use Rattle.lists.specs.Results.{Listed, keep, filter}
 use Rattle.lists.specs.By.{Each}
 use Rattle.lists.specs.Grouped.{grouped}
 use Rattle.runs.specs.declared.voiced.Run.{Run}
 
--- no pitch
-abbrev pub none : Float
-none = ofBits binary32 0
-
--- frame i has a pitch
+-- frame i has a pitch; 0 is none
 abbrev pub voiced : List Float → ℕ → Bool
-voiced pitch i = ne (getD pitch i nan) none
+voiced pitch i = ne (getD pitch i nan) zeroF
 
 -- the frames that have a pitch, in order
 unfoldable pub voicedFrames : List Float → List ℕ
@@ -57,8 +54,8 @@ unfoldable pub longRuns : List Float → List Span
 longRuns pitch = map span (filter long (voicedRuns pitch))
 
 -- the runs lie in a track of n frames
-abbrev pub Within : ℕ → List Span → Type 0
-Within n = Each (λ r. (r .first ≤ r .last) × (r .last < n))
+abbrev pub InTrack : ℕ → List Span → Type 0
+InTrack n = Each (λ r. (r .first ≤ r .last) × (r .last < n))
 
 -- runs of a track of n frames, from frame lo on, in order, each more than 3 frames after the one before it
 abbrev pub Spaced : ℕ → ℕ → List Span → Type 0
@@ -86,7 +83,7 @@ SpansLent first last = (length first ≡ length last) × (length first ≤ 2048)
 
 -- two lists lent as runs of a track of n frames
 abbrev pub SpansIn : ℕ → List ℕ → List ℕ → Type 0
-SpansIn n first last = (length first ≡ length last) × Within n (spans first last)
+SpansIn n first last = (length first ≡ length last) × InTrack n (spans first last)
 
 -- a track of at most 2,048 frames, and two lists with an entry at least for each of them
 abbrev pub RoomOfTwo : {A B C : Type 0} → List A → List B → List C → Type 0

@@ -7,7 +7,8 @@ ghost use Prim.Native.Nat.{_+_, _≤_, _<_, min};
 ghost use lib.ListN.{length};
 ghost use lib.Ieee.{ne};
 ghost use Rattle.lists.specs.Results.{Pushed, moreIf};
-ghost use Rattle.runs.specs.Runs.{none, voiced, sole, joined, voicedRuns, long, longRuns, RoomOfTwo, SpansListed, RunsListed};
+ghost use Rattle.floats.specs.Plain.{zeroF};
+ghost use Rattle.runs.specs.Runs.{voiced, sole, joined, voicedRuns, long, longRuns, RoomOfTwo, SpansListed, RunsListed};
 ghost use Rattle.runs.specs.Ahead.{framesFrom, runsFrom, NextVoiced};
 
 // Two voiced frames that are at most this far apart share a run.
@@ -26,7 +27,7 @@ pub struct Run {
 
 // 1 where there is a pitch, else 0.
 pub fn one_voiced(hz: f32) -> u32
-    ensures { λ r. ⌜ r ≡ moreIf (ne hz none) 0 ⌝ }
+    ensures { λ r. ⌜ r ≡ moreIf (ne hz zeroF) 0 ⌝ }
 {
     if hz != 0.0 { 1 } else { 0 }
 }
@@ -87,7 +88,7 @@ fn reach(run: Run, n: usize) -> usize
 // The run with frame f, if that has a pitch; else the run as it is.
 fn extended(run: Run, hz: f32, f: u32) -> Run
     requires { ⌜ run .size < 2048 ⌝ }
-    ensures { λ r. ⌜ r ≡ cond (ne hz none) (joined run (sole f)) run ⌝ }
+    ensures { λ r. ⌜ r ≡ cond (ne hz zeroF) (joined run (sole f)) run ⌝ }
 {
     if hz != 0.0 {
         Run {

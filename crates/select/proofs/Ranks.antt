@@ -9,7 +9,8 @@ use native.Mathlib.Nat.{le-refl, le-of-suc-le-suc, not-suc-le-zero, lt-of-lt-of-
 use native.Mathlib.Omega.{arith}
 use lib.Dec.{leb, ltb}
 use lib.ListN.{length, getD}
-use borrow.Author.Tests.{le-leb, lt-leb, lt-ltb, le-ltb, leb-true, leb-false}
+use borrow.Author.Tests.{le-leb, lt-leb, lt-ltb, le-ltb}
+use Rattle.floats.proofs.Less.{le-or-lt}
 use Rattle.lists.specs.Results.{consIf, filter}
 use Rattle.lists.specs.By.{Each}
 use Rattle.lists.specs.Sorted.{Low, Rises, insert, sorted}
@@ -21,13 +22,6 @@ use Rattle.select.specs.Order.{atMost, lowest, highest, lowestAbove}
 -- m is at least each entry
 abbrev pub High : ℕ → List ℕ → Type 0
 High m = Each (λ y. y ≤ m)
-
-order : (x y : ℕ) → (x ≤ y) ⊎ (y < x)
-order x y = go (leb x y) refl
-  where
-    go : (b : Bool) → leb x y ≡ b → (x ≤ y) ⊎ (y < x)
-    go true e = inl (leb-true x y e)
-    go false e = inr (leb-false x y e)
 
 -- ---- bounds
 pub lowest-low : (l : List ℕ) → Low (lowest l) l
@@ -59,7 +53,7 @@ count-down x y l h k = count-none x y (y ∷ l) h (le-refl y, k)
 
 within : (x : ℕ) (l : List ℕ) (k : ℕ) → Rises l → k < length l → k < atMost x l → getD l k 0 ≤ x
 within x [] k r h q = absurd (not-suc-le-zero h)
-within x (y ∷ l) k r h q = go (order y x) (λ j. within x l j (r .1)) k h q
+within x (y ∷ l) k r h q = go (le-or-lt y x) (λ j. within x l j (r .1)) k h q
   where
     go : (y ≤ x) ⊎ (x < y) → ((j : ℕ) → j < length l → j < atMost x l → getD l j 0 ≤ x) → (j : ℕ) → j < suc (length l) → j < atMost x (y ∷ l) → getD (y ∷ l) j 0 ≤ x
     go (inl p) later zero g s = p
@@ -68,7 +62,7 @@ within x (y ∷ l) k r h q = go (order y x) (λ j. within x l j (r .1)) k h q
 
 beyond : (x : ℕ) (l : List ℕ) (k : ℕ) → Rises l → k < length l → atMost x l ≤ k → x < getD l k 0
 beyond x [] k r h q = absurd (not-suc-le-zero h)
-beyond x (y ∷ l) k r h q = go (order y x) (λ j. beyond x l j (r .1)) k h q
+beyond x (y ∷ l) k r h q = go (le-or-lt y x) (λ j. beyond x l j (r .1)) k h q
   where
     go : (y ≤ x) ⊎ (x < y) → ((j : ℕ) → j < length l → atMost x l ≤ j → x < getD l j 0) → (j : ℕ) → j < suc (length l) → atMost x (y ∷ l) ≤ j → x < getD (y ∷ l) j 0
     go (inl p) later zero g s = absurd (omega (arith, count-up x y l p))
@@ -76,7 +70,7 @@ beyond x (y ∷ l) k r h q = go (order y x) (λ j. beyond x l j (r .1)) k h q
     go (inr p) later j g s = lt-of-lt-of-le p (each-at (λ z. y ≤ z) (y ∷ l) 0 (le-refl y, r .0) j g)
 
 reached : (l : List ℕ) (k : ℕ) → Rises l → k < length l → k < atMost (getD l k 0) l
-reached l k r h = go (order (atMost (getD l k 0) l) k)
+reached l k r h = go (le-or-lt (atMost (getD l k 0) l) k)
   where
     go : (atMost (getD l k 0) l ≤ k) ⊎ (k < atMost (getD l k 0) l) → k < atMost (getD l k 0) l
     go (inl p) = absurd (lt-irrefl (getD l k 0) (beyond (getD l k 0) l k r h p))
@@ -112,7 +106,7 @@ above-insert x y (z ∷ l) = go (leb y z) (above-insert x y l)
 
 above-sorted : (x : ℕ) (l : List ℕ) → lowestAbove x (sorted l) ≡ lowestAbove x l
 above-sorted x [] = refl
-above-sorted x (y ∷ l) = above-insert x y (sorted l) ∙ go (order y x) (above-sorted x l)
+above-sorted x (y ∷ l) = above-insert x y (sorted l) ∙ go (le-or-lt y x) (above-sorted x l)
   where
     go : (y ≤ x) ⊎ (x < y) → lowestAbove x (sorted l) ≡ lowestAbove x l → lowestAbove x (y ∷ sorted l) ≡ lowestAbove x (y ∷ l)
     go (inl p) e = above-no x y (sorted l) p ∙ e ∙ sym (above-no x y l p)
@@ -120,7 +114,7 @@ above-sorted x (y ∷ l) = above-insert x y (sorted l) ∙ go (order y x) (above
 
 above-at : (x : ℕ) (l : List ℕ) → Rises l → High 4294967295 l → atMost x l < length l → lowestAbove x l ≡ getD l (atMost x l) 0
 above-at x [] r m h = absurd (not-suc-le-zero h)
-above-at x (y ∷ l) r m h = go (order y x) (above-at x l (r .1) (m .1))
+above-at x (y ∷ l) r m h = go (le-or-lt y x) (above-at x l (r .1) (m .1))
   where
     go : (y ≤ x) ⊎ (x < y) → (atMost x l < length l → lowestAbove x l ≡ getD l (atMost x l) 0) → lowestAbove x (y ∷ l) ≡ getD (y ∷ l) (atMost x (y ∷ l)) 0
     go (inl p) later =

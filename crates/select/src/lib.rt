@@ -1,7 +1,9 @@
 // The entry at a place of a list as it would stand sorted, found by counting: nothing is sorted, moved or written.
+use lists::sizes::larger_u32;
+use lists::sizes::smaller_u32;
 ghost use mathlib.Core.Path.{_≡_};
 ghost use mathlib.Core.Bool.{cond};
-ghost use Prim.Native.Nat.{_+_, _<_, min, max};
+ghost use Prim.Native.Nat.{_+_, _<_};
 ghost use lib.Dec.{leb, ltb};
 ghost use lib.ListN.{length, getD};
 ghost use Rattle.lists.specs.Results.{moreIf};
@@ -29,20 +31,6 @@ fn count(keys: &[u32], x: u32) -> u32
     n
 }
 
-// The smaller of two.
-fn smaller(a: u32, b: u32) -> u32
-    ensures { λ r. ⌜ r ≡ min a b ⌝ }
-{
-    if a < b { a } else { b }
-}
-
-// The larger of two.
-fn larger(a: u32, b: u32) -> u32
-    ensures { λ r. ⌜ r ≡ max a b ⌝ }
-{
-    if a < b { b } else { a }
-}
-
 // The smallest key; the largest u32 where there is no key.
 fn least(keys: &[u32]) -> u32
     ensures { λ r. ⌜ r ≡ lowest (now (keys .entry)) ⌝ }
@@ -50,7 +38,7 @@ fn least(keys: &[u32]) -> u32
     let mut b = 0xffff_ffffu32;
     let mut i = 0;
     while i < keys.len() {
-        b = smaller(keys[i], b);
+        b = smaller_u32(keys[i], b);
         i += 1;
     }
     b
@@ -63,7 +51,7 @@ fn greatest(keys: &[u32]) -> u32
     let mut b = 0u32;
     let mut i = 0;
     while i < keys.len() {
-        b = larger(keys[i], b);
+        b = larger_u32(keys[i], b);
         i += 1;
     }
     b
@@ -83,7 +71,7 @@ fn least_over(keys: &[u32], x: u32) -> u32
     let mut b = 0xffff_ffffu32;
     let mut i = 0;
     while i < keys.len() {
-        b = smaller(over(keys[i], x), b);
+        b = smaller_u32(over(keys[i], x), b);
         i += 1;
     }
     b

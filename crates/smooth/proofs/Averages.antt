@@ -12,7 +12,7 @@ use Rattle.floats.specs.Plain.{zeroF, plainZero}
 use Rattle.lists.specs.Results.{overlay}
 use Rattle.lists.proofs.Fill.{listed-take}
 use Rattle.lists.proofs.Tabulated.{length-tabulate, tabulate-at}
-use Rattle.smooth.specs.Level.{clean, window, sumOf, meanOf, means, levels, levelAt}
+use Rattle.smooth.specs.Level.{clean, fiveAround, sumOf, meanOf, means, levels, levelAt}
 
 -- ---- the mean of a part
 -- a sum so far, with the frames from j on and before hi added to it
@@ -38,7 +38,7 @@ module _ (c : List Float) (i : ℕ) (h : 2 ≤ i) (k : i + 2 < length c) where
   from-to j n sum e l = ap (λ (x : ℕ). onward c (i + 3) x (add binary32 sum (getD c j nan))) e ∙ sum-step c (i + 3) within j sum l
 
   pub five : plainZero (div binary32 (add binary32 (add binary32 (add binary32 (add binary32 (add binary32 zeroF (getD c (i - 2) nan)) (getD c (i - 1) nan)) (getD c i nan)) (getD c (i + 1) nan)) (getD c (i + 2) nan)) (ofInt binary32 (pos 5)))
-      ≡ meanOf (window c i)
+      ≡ meanOf (fiveAround c i)
   five =
       let s1 = add binary32 zeroF (getD c (i - 2) nan) in
       let s2 = add binary32 s1 (getD c (i - 1) nan) in
@@ -60,11 +60,11 @@ module _ (c : List Float) (i : ℕ) (h : 2 ≤ i) (k : i + 2 < length c) where
 -- ---- the list of the means
 pub length-means : (c : List Float) → length (means c) ≡ length c
 unfolding means
-length-means c = length-tabulate (λ i. meanOf (window c i)) (length c)
+length-means c = length-tabulate (λ i. meanOf (fiveAround c i)) (length c)
 
-pub mean-at : (c : List Float) (i : ℕ) → i < length c → getD (means c) i nan ≡ meanOf (window c i)
+pub mean-at : (c : List Float) (i : ℕ) → i < length c → getD (means c) i nan ≡ meanOf (fiveAround c i)
 unfolding means
-mean-at c i h = tabulate-at (λ i. meanOf (window c i)) (length c) i nan h
+mean-at c i h = tabulate-at (λ i. meanOf (fiveAround c i)) (length c) i nan h
 
 -- ---- the levels, one for each frame
 pub length-levels : (db : List Float) → length (levels db) ≡ length db

@@ -7,16 +7,17 @@ use native.Mathlib.Numerals.{add-one}
 use native.Mathlib.Omega.{arith}
 use mathlib.Core.Path.{_≡_, refl, sym, ap, _∙_}
 use mathlib.Core.Bool.{Bool, true, false, not, _||_, cond, or-false, or-assoc, true≢false}
-use mathlib.Core.List.{List, _∷_, foldl}
+use mathlib.Core.List.{List, _∷_}
 use mathlib.Core.Logic.{⊎-elim}
 use borrow.Author.Tests.{not-true, not-false}
 use lib.ListN.{length}
 use lib.Seq.{slice, slice-cons, slice-empty}
-use lib.Ieee.{Float, nan, inf, fin, lt, eq, isNan}
+use lib.Ieee.{Float, nan, inf, fin, lt, isNan}
 use Rattle.smooth.specs.declared.extrema.Extremum.{Extremum}
 use Rattle.smooth.specs.declared.extrema.Extremum.the-variants.{Max, Min}
 use Rattle.lists.specs.Frames.{at, someFrame}
-use Rattle.smooth.specs.Extrema.{beyond, further, unreached, furthest, unbeaten, firstBest, flatLast, middle, extremumMiddle}
+use Rattle.lists.specs.By.{bestOf}
+use Rattle.smooth.specs.Extrema.{beyond, further, unreached, furthest, unbeaten, firstBest, changesAfter, flatLast, middle, extremumMiddle}
 use Rattle.lists.proofs.Tests.{not-holds}
 use Rattle.lists.proofs.Walks.{First, first-is, some-at}
 use Rattle.smooth.proofs.Order.{beyond-trans, beyond-from, beyond-itself, beyond-number}
@@ -51,33 +52,33 @@ module _ (kind : Extremum) where
 
   module _ (s : List Float) where
     -- one more frame
-    pub furthest-step : (m : Float) (i b : ℕ) → i ≤ b → b < length s → foldl (further kind) m (slice i (b + 1) s) ≡ foldl (further kind) (further kind m (at s i)) (slice (i + 1) (b + 1) s)
+    pub furthest-step : (m : Float) (i b : ℕ) → i ≤ b → b < length s → bestOf (beyond kind) m (slice i (b + 1) s) ≡ bestOf (beyond kind) (further kind m (at s i)) (slice (i + 1) (b + 1) s)
     furthest-step m i b h k = rw (add-one i, slice-cons i (b + 1) s nan (omega arith) (omega arith))
 
-    pub furthest-over : (m : Float) (i b : ℕ) → i ≡ b + 1 → foldl (further kind) m (slice i (b + 1) s) ≡ m
+    pub furthest-over : (m : Float) (i b : ℕ) → i ≡ b + 1 → bestOf (beyond kind) m (slice i (b + 1) s) ≡ m
     furthest-over m i b e = rw (e, slice-empty (b + 1) s)
 
     -- k frames from i on
     beyond-some : (v m : Float) (i k : ℕ) → i + k ≤ length s → isNan m ≡ false →
-        beyond kind (foldl (further kind) m (slice i (i + k) s)) v ≡ (beyond kind m v || someFrame (λ j. beyond kind (at s j) v) i k)
+        beyond kind (bestOf (beyond kind) m (slice i (i + k) s)) v ≡ (beyond kind m v || someFrame (λ j. beyond kind (at s j) v) i k)
     unfolding someFrame
     beyond-some v m i zero l h = rw (add-zero i, slice-empty i s) (sym (or-false (beyond kind m v)))
     beyond-some v m i (suc k) l h =
         let e : i + suc k ≡ i + 1 + k = omega arith in
         let x = at s i in
-        ap (λ (n : ℕ). beyond kind (foldl (further kind) m (slice i n s)) v) e
-        ∙ ap (λ (r : List Float). beyond kind (foldl (further kind) m r) v) (slice-cons i (i + 1 + k) s nan (omega arith) (omega arith) ∙ ap (λ (n : ℕ). x ∷ slice n (i + 1 + k) s) (sym (add-one i)))
+        ap (λ (n : ℕ). beyond kind (bestOf (beyond kind) m (slice i n s)) v) e
+        ∙ ap (λ (r : List Float). beyond kind (bestOf (beyond kind) m r) v) (slice-cons i (i + 1 + k) s nan (omega arith) (omega arith) ∙ ap (λ (n : ℕ). x ∷ slice n (i + 1 + k) s) (sym (add-one i)))
         ∙ beyond-some v (further kind m x) (i + 1) k (omega arith) (further-number m x h)
         ∙ ap (λ (c : Bool). c || someFrame (λ j. beyond kind (at s j) v) (i + 1) k) (further-beyond m x v h)
         ∙ or-assoc (beyond kind m v) (beyond kind x v) (someFrame (λ j. beyond kind (at s j) v) (i + 1) k)
 
     -- a value from which every frame is beaten is the one that the walk began with
-    all-beaten : (far m : Float) (i k : ℕ) → i + k ≤ length s → far ≡ foldl (further kind) m (slice i (i + k) s) → ((j : ℕ) → i ≤ j → j < i + k → beyond kind far (at s j) ≡ true) → far ≡ m
+    all-beaten : (far m : Float) (i k : ℕ) → i + k ≤ length s → far ≡ bestOf (beyond kind) m (slice i (i + k) s) → ((j : ℕ) → i ≤ j → j < i + k → beyond kind far (at s j) ≡ true) → far ≡ m
     all-beaten far m i zero l e f = e ∙ rw (add-zero i, slice-empty i s)
     all-beaten far m i (suc k) l e f =
         let n : i + suc k ≡ i + 1 + k = omega arith in
-        let d : far ≡ foldl (further kind) (further kind m (at s i)) (slice (i + 1) (i + 1 + k) s) =
-        e ∙ ap (λ (z : ℕ). foldl (further kind) m (slice i z s)) n ∙ rw (slice-cons i (i + 1 + k) s nan (omega arith) (omega arith), add-one) in
+        let d : far ≡ bestOf (beyond kind) (further kind m (at s i)) (slice (i + 1) (i + 1 + k) s) =
+        e ∙ ap (λ (z : ℕ). bestOf (beyond kind) m (slice i z s)) n ∙ rw (slice-cons i (i + 1 + k) s nan (omega arith) (omega arith), add-one) in
         go (beyond kind (at s i) m) refl (all-beaten far (further kind m (at s i)) (i + 1) k (omega arith) d (λ j p q. f j (omega arith) (omega arith)))
       where
         go : (b : Bool) → beyond kind (at s i) m ≡ b → far ≡ cond b (at s i) m → far ≡ m
@@ -110,8 +111,8 @@ module _ (kind : Extremum) (s : List Float) (a b : ℕ) (h : a ≤ b) (l : b < l
   unbeaten-by i =
       let e : a + (b + 1 - a) ≡ b + 1 = omega arith in
       let some = someFrame (λ k. beyond kind (at s k) (at s i)) a (b + 1 - a) in
-      let c : beyond kind (foldl (further kind) (unreached kind) (slice a (b + 1) s)) (at s i) ≡ some =
-      ap (λ (n : ℕ). beyond kind (foldl (further kind) (unreached kind) (slice a n s)) (at s i)) (sym e)
+      let c : beyond kind (bestOf (beyond kind) (unreached kind) (slice a (b + 1) s)) (at s i) ≡ some =
+      ap (λ (n : ℕ). beyond kind (bestOf (beyond kind) (unreached kind) (slice a n s)) (at s i)) (sym e)
       ∙ beyond-some kind s (at s i) (unreached kind) a (b + 1 - a) (omega arith) (unreached-number kind)
       ∙ ap (λ (d : Bool). d || some) (beyond-unreached kind (at s i)) in
       ap not (sym c)
@@ -138,7 +139,7 @@ module _ (kind : Extremum) (s : List Float) (a b : ℕ) (h : a ≤ b) (l : b < l
       let r = firstBest kind s a b in
       let last : r ≡ b = ⊎-elim (λ d. d) (λ d. absurd (true≢false (sym (first-best .here (omega arith)) ∙ e))) (eq-or-lt-of-le (best-within .1)) in
       let n : a + (b + 1 - a) ≡ b + 1 = omega arith in
-      all-beaten kind s far (unreached kind) a (b + 1 - a) (omega arith) (ap (λ (z : ℕ). foldl (further kind) (unreached kind) (slice a z s)) (sym n))
+      all-beaten kind s far (unreached kind) a (b + 1 - a) (omega arith) (ap (λ (z : ℕ). bestOf (beyond kind) (unreached kind) (slice a z s)) (sym n))
       (λ j p q.
       let c : j ≤ r = omega arith in
       ⊎-elim (λ d. beaten j (ap (unbeaten kind s a b) d ∙ e)) (λ d. beaten j (first-best .before j p d)) (eq-or-lt-of-le c))
@@ -160,23 +161,14 @@ module _ (kind : Extremum) (s : List Float) (a b : ℕ) (h : a ≤ b) (l : b < l
   unfolding far
   best-first n k p q = beyond-from kind far (at s (firstBest kind s a b)) (at s k) n (not-true _ (sym (unbeaten-by (firstBest kind s a b)) ∙ best-passes)) (beaten k (first-best .before k p q))
 
--- ---- a flat stretch, cut
-pub flat-within : (s : List Float) (i k : ℕ) → (i ≤ flatLast s i k) × (flatLast s i k ≤ i + k)
-unfolding flatLast
-flat-within s i zero = (omega arith, omega arith)
-flat-within s i (suc k) = go (eq (at s (i + 1)) (at s i)) (flat-within s (i + 1) k)
-  where
-    go : (b : Bool) → (i + 1 ≤ flatLast s (i + 1) k) × (flatLast s (i + 1) k ≤ i + 1 + k) → (i ≤ cond b (flatLast s (i + 1) k) i) × (cond b (flatLast s (i + 1) k) i ≤ i + suc k)
-    go true h = (omega arith, omega arith)
-    go false h = (omega arith, omega arith)
-
+-- ---- the middle of its flat stretch, cut
 pub middle-within : (kind : Extremum) (s : List Float) (a b : ℕ) → a ≤ b → b < length s → (a ≤ extremumMiddle kind s a b) × (extremumMiddle kind s a b ≤ b)
 unfolding extremumMiddle
 middle-within kind s a b h l =
     let r = firstBest kind s a b in
     let w : (a ≤ r) × (r ≤ b) = best-within kind s a b h l in
-    let f : (r ≤ flatLast s r (b - r)) × (flatLast s r (b - r) ≤ r + (b - r)) = flat-within s r (b - r) in
-    (omega arith, omega arith)
+    let f = first-is (changesAfter s) r (b - r) in
+    (omega (arith, f .low), omega (arith, f .low, f .high))
 
 pub middle-is : (kind : Extremum) (s : List Float) (a b best last : ℕ) → best ≡ firstBest kind s a b → last ≡ flatLast s best (b - best) → middle best last ≡ extremumMiddle kind s a b
 unfolding extremumMiddle

@@ -17,16 +17,16 @@ use Rattle.floats.proofs.Numbers.{add-number, div-whole-number}
 use Rattle.floats.proofs.Sizes.{add-within, div-within}
 use Rattle.lists.specs.By.{Each}
 use Rattle.lists.proofs.Parts.{each-take, each-drop}
-use Rattle.smooth.specs.Level.{clean, window, sumOf, levelAt}
+use Rattle.smooth.specs.Level.{clean, fiveAround, sumOf, levelAt}
 
 -- ---- the frames of a window
 in-window : {A : Type 0} (P : A → Type 0) (l : List A) (a b : ℕ) → Each P l → Each P (slice a b l)
 in-window P l a b h = each-drop P a (take b l) (each-take P b l h)
 
 -- from one to five
-window-size : (c : List Float) (i : ℕ) → i < length c → (0 < length (window c i)) × (length (window c i) ≤ 5)
+window-size : (c : List Float) (i : ℕ) → i < length c → (0 < length (fiveAround c i)) × (length (fiveAround c i) ≤ 5)
 window-size c i h =
-    let e : length (window c i) ≡ min (i + 3) (length c) - (i - 2) = length-slice (i - 2) (min (i + 3) (length c)) c (omega arith) in
+    let e : length (fiveAround c i) ≡ min (i + 3) (length c) - (i - 2) = length-slice (i - 2) (min (i + 3) (length c)) c (omega arith) in
     (omega arith, omega arith)
 
 -- ---- what a frame reads as
@@ -81,7 +81,7 @@ plain-again (fin s (suc m) e) = refl
 -- ---- the level
 module _ (db : List Float) (i : ℕ) where
   abbrev around : List Float
-  around = window (map clean db) i
+  around = fiveAround (map clean db) i
 
   -- before a zero loses its sign
   abbrev quotient : Float

@@ -1,28 +1,25 @@
 -- Local extrema: the frames of a flat stretch all know its two ends, so that at most its middle is listed, and the walk from stretch to stretch lists what the definition keeps.
 -- The frames listed rise strictly, and lie in lo .. hi and below the length (`extrema-rise`), so that there are no more of them than frames (`extrema-fit`). Assumes nothing.
-use Prim.Native.Nat.{ℕ, zero, suc, _+_, _-_, _≤_, _<_, min}
-use native.Mathlib.Nat.{eq-or-lt-of-le}
-use native.Mathlib.Numerals.{add-one}
+use Prim.Native.Nat.{ℕ, _+_, _-_, _≤_, _<_, min}
 use native.Mathlib.Omega.{arith}
 use mathlib.Core.Path.{_≡_, refl, sym, ap, ap₂, _∙_}
-use mathlib.Core.Bool.{Bool, true, false, _&&_, _||_, cond, true≢false}
+use mathlib.Core.Bool.{Bool, true, false, _&&_, _||_, true≢false}
 use mathlib.Core.List.{List}
-use mathlib.Core.Logic.{⊎-elim}
-use borrow.Author.Tests.{not-true, not-false, leb-true, leb-false, lt-leb, ltb-true, ltb-false, eq-eqb, ne-eqb}
+use borrow.Author.Tests.{leb-true, leb-false, lt-leb, ltb-true, eq-eqb, ne-eqb}
 use lib.Bits.{bitOr}
 use lib.Dec.{leb, ltb}
 use lib.ListN.{length}
-use lib.Ieee.{Float, eq, ne}
+use lib.Ieee.{Float}
 use Rattle.lists.specs.Results.{Listed, Pushed, keep, consIf, moreIf}
 use Rattle.lists.specs.Sorted.{StrictlyRises}
 use Rattle.lists.proofs.Tests.{and-cases}
 use Rattle.lists.proofs.Entries.{each-map}
 use Rattle.lists.proofs.Members.{strict-between, each-keep, keep-rises}
 use Rattle.lists.proofs.Counting.{neither}
+use Rattle.lists.proofs.Walks.{NonePass, none-more, Seeking, seek-start, seek-on, seek-past, seek-found, back-found}
 use Rattle.lists.proofs.Fill.{Filling, fill-start, fill-pushed, fill-fitsIf, fill-end, keep-step, keep-over, keep-fits, keep-pass}
 use Rattle.smooth.specs.declared.extrema.Extremum.{Extremum}
-use Rattle.lists.specs.Frames.{at}
-use Rattle.smooth.specs.Extrema.{flatFirst, flatLast, middle, peaksAt, isExtremum, inside, localExtrema, offered}
+use Rattle.smooth.specs.Extrema.{changesAfter, flatLast, middle, peaksAt, isExtremum, inside, localExtrema, offered}
 
 -- ---- frames of which at most one passes
 module _ (t : ℕ → Bool) (n : ℕ) where
@@ -38,92 +35,19 @@ module _ (t : ℕ → Bool) (n : ℕ) where
       ∙ ap (consIf (t m) m) (keep-pass t (m + 1) (j - m) n (λ x p q. f x (omega arith) (omega arith) (λ e. omega arith)) ∙ ap (λ (x : ℕ). keep t x (n - x)) past)
 
 -- ---- a flat stretch
--- frames i to j are alike, each to the next
-abbrev pub Alike : List Float → ℕ → ℕ → Type 0
-Alike s i j = (k : ℕ) → i ≤ k → k < j → eq (at s (k + 1)) (at s k) ≡ true
-
--- so they are, and the one before i is not
+-- the value changes after no frame from i to before j, but just before i it does
 pub record Stretch (s : List Float) (i j : ℕ) : Type 0 where
-  pub order : i ≤ j
   pub within : j < length s
-  pub start : flatFirst s i ≡ i
-  pub alike : Alike s i j
+  pub start : 0 < i → changesAfter s (i - 1) ≡ true
+  pub alike : Seeking (changesAfter s) i (length s - 1) j
 
 -- the stretch ends at j
 abbrev pub Ends : List Float → ℕ → Type 0
-Ends s j = (j + 1 < length s → eq (at s (j + 1)) (at s j) ≡ false)
+Ends s j = (j + 1 < length s → changesAfter s j ≡ true)
 
-module _ (s : List Float) where
-  first-step : (k : ℕ) → flatFirst s (k + 1) ≡ cond (eq (at s (k + 1)) (at s k)) (flatFirst s k) (k + 1)
-  unfolding flatFirst
-  first-step k = rw (add-one k)
-
-  knows-first : (d i k : ℕ) → k ≡ i + d → flatFirst s i ≡ i → ((m : ℕ) → i ≤ m → m < k → eq (at s (m + 1)) (at s m) ≡ true) → flatFirst s k ≡ i
-  knows-first zero i k e h f =
-      let c : k ≡ i = omega arith in
-      rw c h
-  knows-first (suc d) i k e h f =
-      let c : k ≡ i + d + 1 = omega arith in
-      let p : eq (at s (i + d + 1)) (at s (i + d)) ≡ true = f (i + d) (omega arith) (omega arith) in
-      ap (flatFirst s) c ∙ first-step (i + d) ∙ rw p (knows-first d i (i + d) refl h (λ m a b. f m a (omega arith)))
-
-  last-step : (i n : ℕ) → i < n → flatLast s i (n - i) ≡ cond (eq (at s (i + 1)) (at s i)) (flatLast s (i + 1) (n - (i + 1))) i
-  unfolding flatLast
-  last-step i n h =
-      let e : n - i ≡ suc (n - (i + 1)) = omega arith in
-      rw e
-
-  last-over : (i n : ℕ) → n ≤ i → flatLast s i (n - i) ≡ i
-  unfolding flatLast
-  last-over i n h =
-      let e : n - i ≡ 0 = omega arith in
-      rw e
-
-  knows-last : (d k j n : ℕ) → j ≡ k + d → j ≤ n → (j < n → eq (at s (j + 1)) (at s j) ≡ false) → ((m : ℕ) → k ≤ m → m < j → eq (at s (m + 1)) (at s m) ≡ true) → flatLast s k (n - k) ≡ j
-  knows-last zero k j n e l h f =
-      let c : k ≡ j = omega arith in
-      ⊎-elim (λ d. rw c (last-over j n (omega arith))) (λ d. rw c (last-step j n d ∙ rw (h d))) (eq-or-lt-of-le l)
-  knows-last (suc d) k j n e l h f =
-      let p : eq (at s (k + 1)) (at s k) ≡ true = f k (omega arith) (omega arith) in
-      last-step k n (omega arith) ∙ rw p (knows-last d (k + 1) j n (omega arith) l h (λ m a b. f m (omega arith) b))
-
--- ---- how far a stretch goes on
-module _ (s : List Float) where
-  pub alike-none : (i : ℕ) → Alike s i i
-  alike-none i k p q = absurd (omega arith)
-
-  pub alike-join : (i j l : ℕ) → Alike s i j → Alike s j l → Alike s i l
-  alike-join i j l f g k p q = go (ltb k j) refl
-    where
-      go : (b : Bool) → ltb k j ≡ b → eq (at s (k + 1)) (at s k) ≡ true
-      go true e = f k p (ltb-true k j e)
-      go false e = g k (ltb-false k j e) q
-
-  pub alike-more : (i j : ℕ) → Alike s i j → ne (at s (j + 1)) (at s j) ≡ false → Alike s i (j + 1)
-  unfolding ne
-  alike-more i j f e = alike-join i j (j + 1) f (λ k p q. let d : k ≡ j = omega arith in rw d (not-false _ e))
-
-  -- what the definition says of where a stretch ends, at most at b
-  pub alike-end : (i j b : ℕ) → i ≤ j → j ≤ b → Alike s i j → (j < b → ne (at s (j + 1)) (at s j) ≡ true) → j ≡ flatLast s i (b - i)
-  unfolding ne
-  alike-end i j b p q f e = sym (knows-last s (j - i) i j b (omega arith) q (λ h. not-true _ (e h)) f)
-
-  pub alike-last : (i j : ℕ) → i ≤ j → Alike s i j → flatLast s i (j - i) ≡ j
-  alike-last i j h f = sym (alike-end i j j h (omega arith) f (λ l. absurd (omega arith)))
-
-  -- up to there frames are alike
-  pub last-alike : (k i j : ℕ) → j ≡ flatLast s i k → Alike s i j
-  unfolding flatLast
-  last-alike zero i j e = λ m p q. absurd (omega arith)
-  last-alike (suc k) i j e = go (eq (at s (i + 1)) (at s i)) refl e (last-alike k (i + 1) j)
-    where
-      go : (b : Bool) → eq (at s (i + 1)) (at s i) ≡ b → j ≡ cond b (flatLast s (i + 1) k) i → (j ≡ flatLast s (i + 1) k → Alike s (i + 1) j) → Alike s i j
-      go true q e later = alike-join i (i + 1) j (λ m p r. let c : m ≡ i = omega arith in rw c q) (later e)
-      go false q e later = λ m p r. absurd (omega arith)
-
-  -- a: whether there is a change from i to k
-  pub change-more : (i k a : ℕ) {r : ℕ} → r ≡ moreIf (ne (at s (k + 1)) (at s k)) 0 → (a ≡ 0 → Alike s i k) → bitOr a r ≡ 0 → Alike s i (k + 1)
-  change-more i k a e f z = let n = neither (ne (at s (k + 1)) (at s k)) a e z in alike-more i k (f (n .0)) (n .1)
+-- a: whether there is a change from i to k
+pub change-more : (s : List Float) (i k a : ℕ) {r : ℕ} → r ≡ moreIf (changesAfter s k) 0 → (a ≡ 0 → NonePass (changesAfter s) i k) → bitOr a r ≡ 0 → NonePass (changesAfter s) i (k + 1)
+change-more s i k a e f z = let n = neither (changesAfter s k) a e z in none-more (changesAfter s) (f (n .0)) (n .1)
 
 -- ---- the extrema of a stretch
 module _ (s : List Float) (lo hi : ℕ) (kind : Extremum) where
@@ -135,9 +59,9 @@ module _ (s : List Float) (lo hi : ℕ) (kind : Extremum) where
     extremum-in : (k : ℕ) → i ≤ k → k ≤ j → isExtremum kind s k ≡ peaksAt kind s i j k
     unfolding isExtremum
     extremum-in k p q =
-        let w : j < length s = c .within in
-        ap₂ (λ (f l : ℕ). peaksAt kind s f l k) (knows-first s (k - i) i k (omega arith) (c .start) (λ m a b. c .alike m a (omega arith)))
-        (knows-last s (j - k) k j (length s - 1) (omega arith) (omega arith) (λ h. e (omega arith)) (λ m a b. c .alike m (omega arith) b))
+        ap₂ (λ (f l : ℕ). peaksAt kind s f l k)
+        (sym (back-found (λ m. changesAfter s (m - 1)) k (record { high = p; after = λ m a b. c .alike .before (m - 1) (omega arith) (omega arith) }) (c .start)))
+        (sym (seek-found (changesAfter s) k (length s - 1) (record { low = q; high = c .alike .high; before = λ m a b. c .alike .before m (omega arith) b }) (λ h. e (omega arith))))
 
     -- no frame but the middle
     listed-not : (k : ℕ) → i ≤ k → k ≤ j → (k ≡ middle i j → ⊥) → listed k ≡ false
@@ -145,12 +69,12 @@ module _ (s : List Float) (lo hi : ℕ) (kind : Extremum) where
 
     listed-middle : listed (middle i j) ≡ offered kind s lo hi i j
     listed-middle =
-        let o : i ≤ j = c .order in
+        let o : i ≤ j = c .alike .low in
         rw (extremum-in (middle i j) (omega arith) (omega arith), eq-eqb (middle i j) (middle i j) refl)
 
     stretch-cut : keep listed i (length s - i) ≡ consIf (offered kind s lo hi i j) (middle i j) (keep listed (j + 1) (length s - (j + 1)))
     stretch-cut =
-        let o : i ≤ j = c .order in
+        let o : i ≤ j = c .alike .low in
         keep-one listed (length s) i j (middle i j) (omega arith) (omega arith) (c .within) listed-not
         ∙ ap (λ (b : Bool). consIf b (middle i j) (keep listed (j + 1) (length s - (j + 1)))) listed-middle
 
@@ -162,11 +86,11 @@ module _ (s : List Float) (lo hi : ℕ) (kind : Extremum) where
       pub todo : Filling (localExtrema s lo hi kind) (keep listed i (length s - i)) out₀ out n
 
     pub scan-start : length s ≤ length out₀ → Scan out₀ 0 0 0
-    unfolding localExtrema flatFirst
+    unfolding localExtrema
     scan-start l =
         let e : length s - 0 ≡ length s = omega arith in
         record {
-          stretch = λ h. record { order = omega arith; within = h; start = refl; alike = alike-none s 0 };
+          stretch = λ h. record { within = h; start = λ l. absurd (omega arith); alike = seek-start (changesAfter s) 0 (length s - 1) (omega arith) };
           over = λ h. h;
           todo = rw e (fill-start _ _ (omega (arith, keep-fits listed 0 (length s))));
         }
@@ -175,17 +99,16 @@ module _ (s : List Float) (lo hi : ℕ) (kind : Extremum) where
       pub scan-end : length s ≤ j → Listed (localExtrema s lo hi kind) out₀ out n
       scan-end h = fill-end (rw (keep-over listed i (length s) (c .over h)) at (c .todo))
 
-      module _ (h : j < length s) {b : Bool} (e : b ≡ (leb (length s) (j + 1) || ne (at s (j + 1)) (at s j))) where
+      module _ (h : j < length s) {b : Bool} (e : b ≡ (leb (length s) (j + 1) || changesAfter s j)) where
         ends : b ≡ true → Ends s j
-        unfolding ne
         ends t l =
             let x : leb (length s) (j + 1) ≡ false = lt-leb (length s) (j + 1) l in
-            not-true _ (rw x at (sym e ∙ t))
+            rw x at (sym e ∙ t)
 
-        goes : b ≡ false → (j + 1 < length s) × (ne (at s (j + 1)) (at s j) ≡ false)
+        goes : b ≡ false → (j + 1 < length s) × (changesAfter s j ≡ false)
         goes t = go (leb (length s) (j + 1)) refl (sym e ∙ t)
           where
-            go : (a : Bool) → leb (length s) (j + 1) ≡ a → (a || ne (at s (j + 1)) (at s j)) ≡ false → (j + 1 < length s) × (ne (at s (j + 1)) (at s j) ≡ false)
+            go : (a : Bool) → leb (length s) (j + 1) ≡ a → (a || changesAfter s j) ≡ false → (j + 1 < length s) × (changesAfter s j ≡ false)
             go true x y = absurd (true≢false y)
             go false x y = (leb-false (length s) (j + 1) x, y)
 
@@ -194,7 +117,7 @@ module _ (s : List Float) (lo hi : ℕ) (kind : Extremum) where
 
         pub scan-cut : b ≡ true → {out' : List ℕ} {n' : ℕ} → Pushed (offered kind s lo hi i j) (middle i j) n out out' n' → Scan out' n' (j + 1) (j + 1)
         scan-cut t p = record {
-          stretch = λ l. record { order = omega arith; within = l; start = first-step s j ∙ rw (ends t l); alike = alike-none s (j + 1) };
+          stretch = λ l. record { within = l; start = λ z. let d : j + 1 - 1 ≡ j = omega arith in rw d (ends t l); alike = seek-start (changesAfter s) (j + 1) (length s - 1) (omega arith) };
           over = λ l. l;
           todo = fill-pushed _ _ (rw (stretch-cut (c .stretch h) (ends t)) at (c .todo)) p;
         }
@@ -204,12 +127,7 @@ module _ (s : List Float) (lo hi : ℕ) (kind : Extremum) where
             let g = goes t in
             let o = c .stretch h in
             record {
-              stretch = λ l. record {
-                order = omega (arith, o .order, f .1 .0);
-                within = l;
-                start = o .start;
-                alike = alike-join s i (j + 1) r (alike-more s i j (o .alike) (g .1)) (last-alike s (length s - 1 - (j + 1)) (j + 1) r (f .0));
-              };
+              stretch = λ l. record { within = l; start = o .start; alike = seek-past _ _ _ (seek-on _ _ _ (o .alike) (omega (arith, g .0)) (g .1)) _ (f .1 .1) (f .0) };
               over = λ l. absurd (omega (arith, l, f .1 .1, h));
               todo = c .todo;
             }

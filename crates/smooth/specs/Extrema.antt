@@ -1,13 +1,14 @@
 -- Local extrema of a track, the extremum of a part of it, and valleys. Definitions only.
-use Prim.Native.Nat.{ℕ, zero, suc, _+_, _-_, _/_}
-use mathlib.Core.Bool.{Bool, true, false, not, _&&_, _||_, cond}
-use mathlib.Core.List.{List, foldl}
+use Prim.Native.Nat.{ℕ, _+_, _-_, _/_}
+use mathlib.Core.Bool.{Bool, true, false, not, _&&_, _||_}
+use mathlib.Core.List.{List}
 use lib.ListN.{length}
 use lib.Seq.{slice}
 use lib.Dec.{leb, ltb, eqb}
-use lib.Ieee.{Float, inf, binary32, lt, eq, sub}
-use Rattle.lists.specs.Frames.{at, someFrame, firstFrame}
+use lib.Ieee.{Float, inf, binary32, lt, ne, sub}
+use Rattle.lists.specs.Frames.{at, someFrame, firstFrame, lastFrame}
 use Rattle.lists.specs.Results.{keep}
+use Rattle.lists.specs.By.{better, bestOf}
 use Rattle.smooth.specs.declared.extrema.Extremum.{Extremum}
 use Rattle.smooth.specs.declared.extrema.Extremum.the-variants.{Max, Min}
 
@@ -17,15 +18,17 @@ beyond Max x y = lt y x
 beyond Min x y = lt x y
 
 -- ---- flat stretches: neighbouring frames of one value
+-- the value changes from frame j to the next
+abbrev pub changesAfter : List Float → ℕ → Bool
+changesAfter s j = ne (at s (j + 1)) (at s j)
+
 -- the first frame of the flat stretch that frame i is in
-unfoldable pub flatFirst : List Float → ℕ → ℕ
-flatFirst s zero = zero
-flatFirst s (suc i) = cond (eq (at s (suc i)) (at s i)) (flatFirst s i) (suc i)
+abbrev pub flatFirst : List Float → ℕ → ℕ
+flatFirst s = lastFrame (λ j. changesAfter s (j - 1))
 
 -- the last frame of the flat stretch that frame i is in, at most k frames on
-unfoldable pub flatLast : List Float → ℕ → ℕ → ℕ
-flatLast s i zero = i
-flatLast s i (suc k) = cond (eq (at s (i + 1)) (at s i)) (flatLast s (i + 1) k) i
+abbrev pub flatLast : List Float → ℕ → ℕ → ℕ
+flatLast s = firstFrame (changesAfter s)
 
 -- its middle, rounded down
 abbrev pub middle : ℕ → ℕ → ℕ
@@ -84,7 +87,7 @@ argmaxMiddle = extremumMiddle Max
 -- ---- valleys
 -- the further out of two values, the first where they are equal
 abbrev pub further : Extremum → Float → Float → Float
-further kind m x = cond (beyond kind x m) x m
+further kind = better (beyond kind)
 
 -- the infinity that every other number is beyond
 abbrev pub unreached : Extremum → Float
@@ -93,7 +96,7 @@ unreached Min = inf false
 
 -- the value that lies furthest out; a NaN is passed over
 unfoldable pub furthest : Extremum → List Float → Float
-furthest kind xs = foldl (further kind) (unreached kind) xs
+furthest kind xs = bestOf (beyond kind) (unreached kind) xs
 
 -- the lower of two values, and the lowest of a list
 abbrev pub lower : Float → Float → Float

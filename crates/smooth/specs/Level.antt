@@ -19,8 +19,8 @@ abbrev pub clean : Float → Float
 clean d = cond (finite d) d silence
 
 -- the frames from i - 2 to i + 2 that there are
-abbrev pub window : List Float → ℕ → List Float
-window c i = slice (i - 2) (min (i + 3) (length c)) c
+abbrev pub fiveAround : List Float → ℕ → List Float
+fiveAround c i = slice (i - 2) (min (i + 3) (length c)) c
 
 -- the sum from +0.0 on, in order, rounded at each addition
 abbrev pub sumOf : List Float → Float
@@ -32,7 +32,7 @@ meanOf xs = plainZero (div binary32 (sumOf xs) (ofInt binary32 (pos (length xs))
 
 -- the mean around each frame
 unfoldable pub means : List Float → List Float
-means c = tabulate (λ i. meanOf (window c i)) (length c)
+means c = tabulate (λ i. meanOf (fiveAround c i)) (length c)
 
 -- the level of each frame
 unfoldable pub levels : List Float → List Float
@@ -40,4 +40,4 @@ levels db = means (map clean db)
 
 -- the level of one frame
 unfoldable pub levelAt : List Float → ℕ → Float
-levelAt db i = meanOf (window (map clean db) i)
+levelAt db i = meanOf (fiveAround (map clean db) i)

@@ -5,10 +5,8 @@ ghost use Prim.Native.Nat.{_+_, _-_, _<_, _≤_};
 ghost use lib.ListN.{length};
 ghost use lib.Seq.{slice};
 ghost use lib.Dec.{leb};
-ghost use lib.Ieee.{ne};
 ghost use Rattle.lists.specs.Results.{Listed, Pushed, moreIf};
-ghost use Rattle.lists.specs.Frames.{at};
-ghost use Rattle.smooth.specs.Extrema.{beyond, unreached, further, furthest, leftClear, rightClear, middle, localExtrema, firstBest, flatLast, extremumMiddle, argminMiddle, argmaxMiddle, offered, shallow};
+ghost use Rattle.smooth.specs.Extrema.{beyond, unreached, further, lower, furthest, leftClear, rightClear, middle, localExtrema, firstBest, changesAfter, flatLast, extremumMiddle, argminMiddle, argmaxMiddle, offered, shallow};
 
 pub enum Extremum {
     Max,
@@ -54,11 +52,7 @@ fn stands_out(s: &[f32], kind: Extremum, i: usize, j: usize) -> bool
     requires { ⌜ (i ≤ j) × (j < length (now s)) ⌝ }
     ensures { λ r. ⌜ r ≡ leftClear kind (now (s .entry)) i && rightClear kind (now (s .entry)) j ⌝ }
 {
-    if left_clear(s, kind, i) {
-        right_clear(s, kind, j)
-    } else {
-        false
-    }
+    left_clear(s, kind, i) && right_clear(s, kind, j)
 }
 
 // The middle of first..=last, rounded down.
@@ -102,7 +96,7 @@ const BLOCK: usize = 16;
 // 1 where the value changes from frame k to the next, else 0.
 fn one_change(s: &[f32], k: usize) -> u32
     requires { ⌜ k + 1 < length (now s) ⌝ }
-    ensures { λ r. ⌜ r ≡ moreIf (ne (at (now (s .entry)) (k + 1)) (at (now (s .entry)) k)) 0 ⌝ }
+    ensures { λ r. ⌜ r ≡ moreIf (changesAfter (now (s .entry)) k) 0 ⌝ }
 {
     if s[k + 1] != s[k] { 1 } else { 0 }
 }
@@ -156,7 +150,7 @@ fn flat_last(s: &[f32], i: usize, b: usize) -> usize
 // Whether a flat stretch ends at frame j: so at the end of the track.
 fn ends_at(s: &[f32], j: usize) -> bool
     requires { ⌜ j < length (now s) ⌝ }
-    ensures { λ r. ⌜ r ≡ (leb (length (now (s .entry))) (j + 1) || ne (at (now (s .entry)) (j + 1)) (at (now (s .entry)) j)) ⌝ }
+    ensures { λ r. ⌜ r ≡ (leb (length (now (s .entry))) (j + 1) || changesAfter (now (s .entry)) j) ⌝ }
 {
     if s.len() <= j + 1 {
         true
@@ -191,6 +185,13 @@ fn further(kind: Extremum, m: f32, x: f32) -> f32
     ensures { λ r. ⌜ r ≡ further kind m x ⌝ }
 {
     if is_beyond(kind, x, m) { x } else { m }
+}
+
+// The lower of two values, the first where they are equal.
+pub fn lower(x: f32, y: f32) -> f32
+    ensures { λ r. ⌜ r ≡ lower x y ⌝ }
+{
+    further(Extremum::Min, x, y)
 }
 
 // The infinity that every other value is beyond.
@@ -264,6 +265,6 @@ pub fn shallow_valley(s: &[f32], a: usize, b: usize, dip: f32) -> bool
     requires { ⌜ (a ≤ b) × (b < length (now s)) ⌝ }
     ensures { λ r. ⌜ r ≡ shallow (now (s .entry)) a b dip ⌝ }
 {
-    let lower = further(Extremum::Min, s[a], s[b]);
-    furthest_between(s, a, b, Extremum::Min) > lower - dip
+    let peak = lower(s[a], s[b]);
+    furthest_between(s, a, b, Extremum::Min) > peak - dip
 }

@@ -5,7 +5,7 @@ ghost use Prim.Native.Nat.{_+_, _-_, _<_, _≤_, min};
 ghost use lib.ListN.{length};
 ghost use lib.Seq.{slice};
 ghost use Rattle.lists.specs.Results.{overlay, replaced};
-ghost use Rattle.smooth.specs.Level.{clean, window, meanOf, means, levels};
+ghost use Rattle.smooth.specs.Level.{clean, fiveAround, meanOf, means, levels};
 use floats::plain::is_finite;
 use floats::plain::plain_zero;
 
@@ -60,7 +60,7 @@ pub fn mean(xs: &[f32], a: usize, b: usize) -> f32
 // The mean of the frames around frame i, of as many of the five as there are.
 fn mean_around(c: &[f32], i: usize) -> f32
     requires { ⌜ i < length (now c) ⌝ }
-    ensures { λ r. ⌜ r ≡ meanOf (window (now (c .entry)) i) ⌝ }
+    ensures { λ r. ⌜ r ≡ meanOf (fiveAround (now (c .entry)) i) ⌝ }
 {
     mean(c, first(i), past(i, c.len()))
 }
@@ -68,7 +68,7 @@ fn mean_around(c: &[f32], i: usize) -> f32
 // The mean of the five frames around frame i, which has two frames on either side.
 fn mean_of_five(c: &[f32], i: usize) -> f32
     requires { ⌜ (2 ≤ i) × (i + 2 < length (now c)) ⌝ }
-    ensures { λ r. ⌜ r ≡ meanOf (window (now (c .entry)) i) ⌝ }
+    ensures { λ r. ⌜ r ≡ meanOf (fiveAround (now (c .entry)) i) ⌝ }
 {
     plain_zero((0.0 + c[i - 2] + c[i - 1] + c[i] + c[i + 1] + c[i + 2]) / 5.0)
 }

@@ -10,7 +10,7 @@ use lib.Seq.{getD-take, take-all}
 use borrow.Author.Tests.{lt-leb, le-leb, leb-true, leb-false, ne-eqb, eq-eqb, eqb-true}
 use Rattle.lists.proofs.Tests.{and-cases, test-iff}
 use Rattle.take.specs.Fields.{halfAt, wordAt}
-use Rattle.take.specs.File.{framesIn, largest, agrees, refusalOf, refused, readTake}
+use Rattle.take.specs.File.{frameCount, largest, agrees, fileRefusal, refused, readTake}
 
 -- ---- the tests in turn
 module _ (held : List ℕ) (total : ℕ) where
@@ -22,60 +22,60 @@ module _ (held : List ℕ) (total : ℕ) where
   unfolding agrees
   no-version h v = rw (le-leb 7 (length held) h, ne-eqb (getD held 4 0) 1 v)
 
-  pub no-length : 7 ≤ length held → getD held 4 0 ≡ 1 → (wordAt held 0 ≡ 15 + 17 * framesIn held → ⊥) → agrees held total ≡ false
+  pub no-length : 7 ≤ length held → getD held 4 0 ≡ 1 → (wordAt held 0 ≡ 15 + 17 * frameCount held → ⊥) → agrees held total ≡ false
   unfolding agrees
-  no-length h v l = rw (le-leb 7 (length held) h, eq-eqb (getD held 4 0) 1 v, ne-eqb (wordAt held 0) (15 + 17 * framesIn held) l)
+  no-length h v l = rw (le-leb 7 (length held) h, eq-eqb (getD held 4 0) 1 v, ne-eqb (wordAt held 0) (15 + 17 * frameCount held) l)
 
-  pub then-total : 7 ≤ length held → getD held 4 0 ≡ 1 → wordAt held 0 ≡ 15 + 17 * framesIn held → agrees held total ≡ eqb total (4 + wordAt held 0)
+  pub then-total : 7 ≤ length held → getD held 4 0 ≡ 1 → wordAt held 0 ≡ 15 + 17 * frameCount held → agrees held total ≡ eqb total (4 + wordAt held 0)
   unfolding agrees
-  then-total h v l = rw (le-leb 7 (length held) h, eq-eqb (getD held 4 0) 1 v, eq-eqb (wordAt held 0) (15 + 17 * framesIn held) l)
+  then-total h v l = rw (le-leb 7 (length held) h, eq-eqb (getD held 4 0) 1 v, eq-eqb (wordAt held 0) (15 + 17 * frameCount held) l)
 
   -- ---- what agreeing bytes say
   pub agreed-head : agrees held total ≡ true → 7 ≤ length held
   unfolding agrees
-  agreed-head e = leb-true 7 (length held) (and-cases (leb 7 (length held)) (eqb (getD held 4 0) 1 && (eqb (wordAt held 0) (15 + 17 * framesIn held) && eqb total (4 + wordAt held 0))) e .0)
+  agreed-head e = leb-true 7 (length held) (and-cases (leb 7 (length held)) (eqb (getD held 4 0) 1 && (eqb (wordAt held 0) (15 + 17 * frameCount held) && eqb total (4 + wordAt held 0))) e .0)
 
-  pub agreed-total : agrees held total ≡ true → total ≡ 19 + 17 * framesIn held
+  pub agreed-total : agrees held total ≡ true → total ≡ 19 + 17 * frameCount held
   unfolding agrees
   agreed-total e =
       let v : Bool = eqb (getD held 4 0) 1 in
-      let l : Bool = eqb (wordAt held 0) (15 + 17 * framesIn held) in
+      let l : Bool = eqb (wordAt held 0) (15 + 17 * frameCount held) in
       let t : Bool = eqb total (4 + wordAt held 0) in
       let a : (l ≡ true) × (t ≡ true) = and-cases l t (and-cases v (l && t) (and-cases (leb 7 (length held)) (v && (l && t)) e .1) .1) in
-      omega (arith, eqb-true (wordAt held 0) (15 + 17 * framesIn held) (a .0), eqb-true total (4 + wordAt held 0) (a .1))
+      omega (arith, eqb-true (wordAt held 0) (15 + 17 * frameCount held) (a .0), eqb-true total (4 + wordAt held 0) (a .1))
 
   -- ---- the refusal
-  pub refused-bytes : agrees held total ≡ false → refusalOf held total ≡ 11
-  unfolding refusalOf
+  pub refused-bytes : agrees held total ≡ false → fileRefusal held total ≡ 11
+  unfolding fileRefusal
   refused-bytes e = rw e
 
-  pub refused-frames : agrees held total ≡ true → 2048 < framesIn held → refusalOf held total ≡ 1
-  unfolding refusalOf
-  refused-frames e h = rw (e, lt-leb (framesIn held) 2048 h)
+  pub refused-frames : agrees held total ≡ true → 2048 < frameCount held → fileRefusal held total ≡ 1
+  unfolding fileRefusal
+  refused-frames e h = rw (e, lt-leb (frameCount held) 2048 h)
 
-  pub refused-short : agrees held total ≡ true → framesIn held ≤ 2048 → length held < total → refusalOf held total ≡ 11
-  unfolding refusalOf
-  refused-short e h l = rw (e, le-leb (framesIn held) 2048 h, lt-leb total (length held) l)
+  pub refused-short : agrees held total ≡ true → frameCount held ≤ 2048 → length held < total → fileRefusal held total ≡ 11
+  unfolding fileRefusal
+  refused-short e h l = rw (e, le-leb (frameCount held) 2048 h, lt-leb total (length held) l)
 
-  pub refused-none : agrees held total ≡ true → framesIn held ≤ 2048 → total ≤ length held → refusalOf held total ≡ 0
-  unfolding refusalOf
-  refused-none e h l = rw (e, le-leb (framesIn held) 2048 h, le-leb total (length held) l)
+  pub refused-none : agrees held total ≡ true → frameCount held ≤ 2048 → total ≤ length held → fileRefusal held total ≡ 0
+  unfolding fileRefusal
+  refused-none e h l = rw (e, le-leb (frameCount held) 2048 h, le-leb total (length held) l)
 
   -- what holds of a take that is not refused
-  pub admitted : refusalOf held total ≡ 0 → (framesIn held ≤ 2048) × (19 + 17 * framesIn held ≤ length held) × (total ≡ 19 + 17 * framesIn held)
-  unfolding refusalOf
+  pub admitted : fileRefusal held total ≡ 0 → (frameCount held ≤ 2048) × (19 + 17 * frameCount held ≤ length held) × (total ≡ 19 + 17 * frameCount held)
+  unfolding fileRefusal
   admitted e = agreeing (agrees held total) refl e
     where
-      holding : (b : Bool) → leb total (length held) ≡ b → agrees held total ≡ true → framesIn held ≤ 2048 → _≡_ {A = ℕ} (cond b 0 11) 0 → (framesIn held ≤ 2048) × (19 + 17 * framesIn held ≤ length held) × (total ≡ 19 + 17 * framesIn held)
+      holding : (b : Bool) → leb total (length held) ≡ b → agrees held total ≡ true → frameCount held ≤ 2048 → _≡_ {A = ℕ} (cond b 0 11) 0 → (frameCount held ≤ 2048) × (19 + 17 * frameCount held ≤ length held) × (total ≡ 19 + 17 * frameCount held)
       holding true p a f q = (f, omega (arith, leb-true total (length held) p, agreed-total a), agreed-total a)
       holding false p a f q = absurd (omega (arith, q))
 
-      few : (b : Bool) → leb (framesIn held) 2048 ≡ b → agrees held total ≡ true → _≡_ {A = ℕ} (cond b (cond (leb total (length held)) 0 11) 1) 0 → (framesIn held ≤ 2048) × (19 + 17 * framesIn held ≤ length held) × (total ≡ 19 + 17 * framesIn held)
-      few true p a q = holding (leb total (length held)) refl a (leb-true (framesIn held) 2048 p) q
+      few : (b : Bool) → leb (frameCount held) 2048 ≡ b → agrees held total ≡ true → _≡_ {A = ℕ} (cond b (cond (leb total (length held)) 0 11) 1) 0 → (frameCount held ≤ 2048) × (19 + 17 * frameCount held ≤ length held) × (total ≡ 19 + 17 * frameCount held)
+      few true p a q = holding (leb total (length held)) refl a (leb-true (frameCount held) 2048 p) q
       few false p a q = absurd (omega (arith, q))
 
-      agreeing : (b : Bool) → agrees held total ≡ b → _≡_ {A = ℕ} (cond b (cond (leb (framesIn held) 2048) (cond (leb total (length held)) 0 11) 1) 11) 0 → (framesIn held ≤ 2048) × (19 + 17 * framesIn held ≤ length held) × (total ≡ 19 + 17 * framesIn held)
-      agreeing true p q = few (leb (framesIn held) 2048) refl p q
+      agreeing : (b : Bool) → agrees held total ≡ b → _≡_ {A = ℕ} (cond b (cond (leb (frameCount held) 2048) (cond (leb total (length held)) 0 11) 1) 11) 0 → (frameCount held ≤ 2048) × (19 + 17 * frameCount held ≤ length held) × (total ≡ 19 + 17 * frameCount held)
+      agreeing true p q = few (leb (frameCount held) 2048) refl p q
       agreeing false p q = absurd (omega (arith, q))
 
 -- ---- the first bytes of a file, as many as the largest take has or more, and the count of all
@@ -83,7 +83,7 @@ module _ (most : ℕ) (file : List ℕ) where
   byte-kept : (k : ℕ) → k < most → getD (take most file) k 0 ≡ getD file k 0
   byte-kept k h = getD-take most file k 0 h
 
-  frames-kept : 7 ≤ most → framesIn (take most file) ≡ framesIn file
+  frames-kept : 7 ≤ most → frameCount (take most file) ≡ frameCount file
   unfolding halfAt
   frames-kept h = rw (byte-kept 5 (omega arith), byte-kept 6 (omega arith))
 
@@ -102,11 +102,11 @@ module _ (most : ℕ) (file : List ℕ) where
   agrees-kept h total = rw (head-kept h, byte-kept 4 (omega arith), length-kept h, frames-kept h)
 
 -- a file longer than every take is refused alike
-longer : (held : List ℕ) (total : ℕ) → 34835 < total → (b : Bool) → agrees held total ≡ b → refusalOf held total ≡ cond b 1 11
+longer : (held : List ℕ) (total : ℕ) → 34835 < total → (b : Bool) → agrees held total ≡ b → fileRefusal held total ≡ cond b 1 11
 longer held total h true e = refused-frames held total e (omega (arith, agreed-total held total e))
 longer held total h false e = refused-bytes held total e
 
-refused-read : (held : List ℕ) (total n : ℕ) → (n ≡ 0 → ⊥) → refusalOf held total ≡ n → readTake held total ≡ refused n
+refused-read : (held : List ℕ) (total n : ℕ) → (n ≡ 0 → ⊥) → fileRefusal held total ≡ n → readTake held total ≡ refused n
 unfolding readTake
 refused-read held total n h e = rw (e, ne-eqb n 0 h)
 
@@ -125,9 +125,9 @@ read-kept most file h = go (leb (length file) most) refl
         longer-read (take most file) (length file) (omega arith) (agrees file (length file)) (agrees-kept most file (omega arith) (length file)) ∙ sym (longer-read file (length file) (omega arith) (agrees file (length file)) refl)
 
 -- nor on the count, once it is past the longest file that a head of two bytes of frames can name
-pub refused-past : (held : List ℕ) (total : ℕ) → framesIn held ≤ 65535 → 1114114 < total → refusalOf held total ≡ 11
+pub refused-past : (held : List ℕ) (total : ℕ) → frameCount held ≤ 65535 → 1114114 < total → fileRefusal held total ≡ 11
 refused-past held total f h = go (agrees held total) refl
   where
-    go : (b : Bool) → agrees held total ≡ b → refusalOf held total ≡ 11
+    go : (b : Bool) → agrees held total ≡ b → fileRefusal held total ≡ 11
     go true e = absurd (omega (arith, agreed-total held total e))
     go false e = refused-bytes held total e

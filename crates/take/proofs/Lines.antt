@@ -8,7 +8,7 @@ use lib.ListN.{length, getD, drop, drop-of-length-le}
 use lib.Ieee.{Float, nan}
 use Rattle.lists.specs.Results.{keep, consIf}
 use Rattle.lists.proofs.Fill.{drop-step, keep-step, keep-over}
-use Rattle.take.specs.Listing.{Marks, pitchWord, nucleusWord, extraWord, edgeWord, boundaryWord, frameLines, markLine, markLines, changed, pitchLines, regionLine, listing}
+use Rattle.take.specs.Listing.{Marks, pitchWord, nucleusWord, extraWord, edgeWord, boundaryWord, frameLines, markLine, markLines, repitched, pitchLines, regionLine, listing}
 
 -- a text for each entry
 module _ (f : ℕ → List ℕ) where
@@ -37,20 +37,20 @@ marks-over w is xs i h = rw (drop-of-length-le is h)
 -- the lines of the changed pitches from frame i on
 module _ (given left : List Float) where
   abbrev pub pitchesFrom : ℕ → List ℕ
-  pitchesFrom i = flatMap (λ (k : ℕ). markLine pitchWord k (getD left k nan)) (keep (λ (k : ℕ). changed (getD given k nan) (getD left k nan)) i (length left - i))
+  pitchesFrom i = flatMap (λ (k : ℕ). markLine pitchWord k (getD left k nan)) (keep (λ (k : ℕ). repitched (getD given k nan) (getD left k nan)) i (length left - i))
 
   pub pitches-start : pitchLines given left ≡ pitchesFrom 0
   unfolding pitchLines
   pitches-start = let e : length left - 0 ≡ length left = omega arith in rw e
 
-  pub pitches-step : (i : ℕ) → i < length left → pitchesFrom i ≡ cond (changed (getD given i nan) (getD left i nan)) (markLine pitchWord i (getD left i nan)) [] ++ pitchesFrom (i + 1)
+  pub pitches-step : (i : ℕ) → i < length left → pitchesFrom i ≡ cond (repitched (getD given i nan) (getD left i nan)) (markLine pitchWord i (getD left i nan)) [] ++ pitchesFrom (i + 1)
   pitches-step i h =
-      ap (flatMap (λ (k : ℕ). markLine pitchWord k (getD left k nan))) (keep-step (λ (k : ℕ). changed (getD given k nan) (getD left k nan)) i (length left) h)
-      ∙ kept-step (λ (k : ℕ). markLine pitchWord k (getD left k nan)) (changed (getD given i nan) (getD left i nan)) i _
+      ap (flatMap (λ (k : ℕ). markLine pitchWord k (getD left k nan))) (keep-step (λ (k : ℕ). repitched (getD given k nan) (getD left k nan)) i (length left) h)
+      ∙ kept-step (λ (k : ℕ). markLine pitchWord k (getD left k nan)) (repitched (getD given i nan) (getD left i nan)) i _
 
   pub pitches-over : (i : ℕ) → length left ≤ i → pitchesFrom i ≡ []
   unfolding flatMap
-  pitches-over i h = ap (flatMap (λ (k : ℕ). markLine pitchWord k (getD left k nan))) (keep-over (λ (k : ℕ). changed (getD given k nan) (getD left k nan)) i (length left) h)
+  pitches-over i h = ap (flatMap (λ (k : ℕ). markLine pitchWord k (getD left k nan))) (keep-over (λ (k : ℕ). repitched (getD given k nan) (getD left k nan)) i (length left) h)
 
 -- what of a listing is still to come after its first parts
 module _ (m : Marks) where

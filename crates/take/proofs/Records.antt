@@ -10,7 +10,7 @@ use lib.Ieee.{Float}
 use Rattle.lists.proofs.Fill.{Filling, fill-start, fill-push, fill-end, listed-all}
 use Rattle.take.specs.Fields.{wordAt, floatAt}
 use Rattle.region.specs.declared.Settings.{Settings}
-use Rattle.take.specs.File.{framesIn, records, trackAt, marksIn, settingsIn, Take, takeIn}
+use Rattle.take.specs.File.{frameCount, records, trackAt, marksIn, settingsIn, FileTake, takeIn}
 
 pub records-length : (n : ℕ) (s : List ℕ) → length (records n s) ≡ n
 unfolding records
@@ -65,6 +65,6 @@ module _ {A : Type 0} (f : List ℕ → A) (file : List ℕ) (out₀ : List A) w
       listed-all (fill-end (rw (records-over (length out₀) i (drop (19 + 17 * i) file) h) at t)) (le-of-eq (sym (length-map (records (length out₀) (drop 19 file)) f ∙ records-length (length out₀) (drop 19 file))))
 
 -- the parts that are read are the take
-pub whole-take : (file : List ℕ) {p : Settings} {db pitch voiced sonority : List Float} {vowel : List ℕ} (a b c d e : ℕ) → p ≡ settingsIn file → db ≡ trackAt 0 (records a (drop 19 file)) → pitch ≡ trackAt 4 (records b (drop 19 file)) → voiced ≡ trackAt 8 (records c (drop 19 file)) → sonority ≡ trackAt 12 (records d (drop 19 file)) → vowel ≡ marksIn (records e (drop 19 file)) → a ≡ framesIn file → b ≡ framesIn file → c ≡ framesIn file → d ≡ framesIn file → e ≡ framesIn file → _≡_ {A = Take} (record { settings = p; db = db; pitch = pitch; voiced = voiced; sonority = sonority; vowel = vowel }) (takeIn file)
+pub whole-take : (file : List ℕ) {p : Settings} {db pitch voiced sonority : List Float} {vowel : List ℕ} (a b c d e : ℕ) → p ≡ settingsIn file → db ≡ trackAt 0 (records a (drop 19 file)) → pitch ≡ trackAt 4 (records b (drop 19 file)) → voiced ≡ trackAt 8 (records c (drop 19 file)) → sonority ≡ trackAt 12 (records d (drop 19 file)) → vowel ≡ marksIn (records e (drop 19 file)) → a ≡ frameCount file → b ≡ frameCount file → c ≡ frameCount file → d ≡ frameCount file → e ≡ frameCount file → _≡_ {A = FileTake} (record { settings = p; db = db; pitch = pitch; voiced = voiced; sonority = sonority; vowel = vowel }) (takeIn file)
 unfolding takeIn
 whole-take file a b c d e hp h1 h2 h3 h4 h5 ha hb hc hd he = rw (hp, h1, h2, h3, h4, h5, ha, hb, hc, hd, he)

@@ -10,7 +10,7 @@ use lib.Ieee.{Float, nan}
 use borrow.Author.Tests.{lt-ltb}
 use Rattle.lists.specs.Results.{keep, consIf}
 use Rattle.take.specs.Text.{glyph, decimalIn, decimal}
-use Rattle.take.specs.Listing.{Marks, pitchWord, nucleusWord, extraWord, edgeWord, boundaryWord, frameLine, markLine, markLines, changed, pitchLines, regionLine, listing, refusedWord, refusedListing, largestListing}
+use Rattle.take.specs.Listing.{Marks, pitchWord, nucleusWord, extraWord, edgeWord, boundaryWord, frameLine, markLine, markLines, repitched, pitchLines, regionLine, listing, refusedWord, refusedListing, largestListing}
 use Rattle.take.proofs.Numbers.{hex-length, tenth}
 
 -- ---- digits
@@ -71,7 +71,7 @@ module _ (b : ℕ) where
 pitches-size : (given left : List Float) → length left ≤ 2048 → length (pitchLines given left) ≤ 20 * length left
 unfolding pitchLines
 pitches-size given left h =
-    kept-size 20 (λ (i : ℕ). markLine pitchWord i (getD left i nan)) (λ (i : ℕ). changed (getD given i nan) (getD left i nan)) 0 (length left)
+    kept-size 20 (λ (i : ℕ). markLine pitchWord i (getD left i nan)) (λ (i : ℕ). repitched (getD given i nan) (getD left i nan)) 0 (length left)
     (λ j l. mark-size pitchWord j 4 (getD left j nan) (needed 10 3 j (omega arith)))
 
 -- the marks of a take of n frames are no more than this

@@ -9,8 +9,8 @@ use Rattle.region.specs.declared.Settings.{Settings}
 use Rattle.take.specs.Fields.{halfAt, wordAt, floatAt}
 
 -- how many frames the head names
-abbrev pub framesIn : List ℕ → ℕ
-framesIn file = halfAt file 5
+abbrev pub frameCount : List ℕ → ℕ
+frameCount file = halfAt file 5
 
 -- the bytes of the largest take, 2,048 frames; those past them need only be counted
 abbrev pub largest : ℕ
@@ -19,11 +19,11 @@ largest = 19 + 17 * 2048
 -- of a file of `total` bytes `held` are the first: whether the head is there, the version is 1, the length is that of
 -- the frames, and as many bytes follow
 unfoldable pub agrees : List ℕ → ℕ → Bool
-agrees held total = leb 7 (length held) && (eqb (getD held 4 0) 1 && (eqb (wordAt held 0) (15 + 17 * framesIn held) && eqb total (4 + wordAt held 0)))
+agrees held total = leb 7 (length held) && (eqb (getD held 4 0) 1 && (eqb (wordAt held 0) (15 + 17 * frameCount held) && eqb total (4 + wordAt held 0)))
 
 -- the refusal's number, 0 where there is none; a take that is not held whole does not agree either
-unfoldable pub refusalOf : List ℕ → ℕ → ℕ
-refusalOf held total = cond (agrees held total) (cond (leb (framesIn held) 2048) (cond (leb total (length held)) 0 11) 1) 11
+unfoldable pub fileRefusal : List ℕ → ℕ → ℕ
+fileRefusal held total = cond (agrees held total) (cond (leb (frameCount held) 2048) (cond (leb total (length held)) 0 11) 1) 11
 
 -- n records of 17 bytes
 unfoldable pub records : ℕ → List ℕ → List (List ℕ)
@@ -32,7 +32,7 @@ records (suc n) s = take 17 s ∷ records n (drop 17 s)
 
 -- the records of a take
 abbrev pub recordsIn : List ℕ → List (List ℕ)
-recordsIn file = records (framesIn file) (drop 19 file)
+recordsIn file = records (frameCount file) (drop 19 file)
 
 -- the f32 at the same place of each record
 abbrev pub trackAt : ℕ → List (List ℕ) → List Float
@@ -43,7 +43,7 @@ abbrev pub marksIn : List (List ℕ) → List ℕ
 marksIn rs = map (λ (r : List ℕ). getD r 16 0) rs
 
 -- a take as its file brings it
-pub record Take : Type 0 where
+pub record FileTake : Type 0 where
   pub settings : Settings
   pub db : List Float
   pub pitch : List Float
@@ -54,7 +54,7 @@ pub record Take : Type 0 where
 abbrev pub settingsIn : List ℕ → Settings
 settingsIn file = record { margin = floatAt file 7; dip = floatAt file 11; gap = wordAt file 15 }
 
-unfoldable pub takeIn : List ℕ → Take
+unfoldable pub takeIn : List ℕ → FileTake
 takeIn file =
     record {
       settings = settingsIn file;
@@ -66,9 +66,9 @@ takeIn file =
     }
 
 -- what a file is read as: the number of its refusal, or its take
-pub data Reading : Type 0 where
-  refused : ℕ → Reading
-  taken : Take → Reading
+pub data FileReading : Type 0 where
+  refused : ℕ → FileReading
+  taken : FileTake → FileReading
 
-unfoldable pub readTake : List ℕ → ℕ → Reading
-readTake held total = cond (eqb (refusalOf held total) 0) (taken (takeIn held)) (refused (refusalOf held total))
+unfoldable pub readTake : List ℕ → ℕ → FileReading
+readTake held total = cond (eqb (fileRefusal held total) 0) (taken (takeIn held)) (refused (fileRefusal held total))

@@ -66,12 +66,12 @@ markLines w (i ∷ is) [] = []
 markLines w (i ∷ is) (x ∷ xs) = markLine w i x ++ markLines w is xs
 
 -- whether a pitch has other bits than before; a NaN has those of every NaN, and no admitted pitch is one
-abbrev pub changed : Float → Float → Bool
-changed x y = not (eqb (toBits binary32 x) (toBits binary32 y))
+abbrev pub repitched : Float → Float → Bool
+repitched x y = not (eqb (toBits binary32 x) (toBits binary32 y))
 
 -- a line for each frame whose pitch changed
 unfoldable pub pitchLines : List Float → List Float → List ℕ
-pitchLines given left = flatMap (λ (i : ℕ). markLine pitchWord i (getD left i nan)) (keep (λ (i : ℕ). changed (getD given i nan) (getD left i nan)) 0 (length left))
+pitchLines given left = flatMap (λ (i : ℕ). markLine pitchWord i (getD left i nan)) (keep (λ (i : ℕ). repitched (getD given i nan) (getD left i nan)) 0 (length left))
 
 -- the region's two ends, or that there is none
 unfoldable pub regionLine : Bool → ℕ → ℕ → List ℕ

@@ -6,7 +6,7 @@ use region::Settings;
 ghost use mathlib.Core.Path.{_≡_};
 ghost use Prim.Native.Nat.{_+_, _*_, _≤_};
 ghost use lib.ListN.{length, drop};
-ghost use Rattle.take.specs.File.{framesIn, agrees, refusalOf, records, trackAt, marksIn, settingsIn, takeIn};
+ghost use Rattle.take.specs.File.{frameCount, agrees, fileRefusal, records, trackAt, marksIn, settingsIn, takeIn};
 
 // The most frames of a take.
 const MAX_FRAMES: usize = 2048;
@@ -19,7 +19,7 @@ const RECORD: usize = 17;
 // How many frames the head names.
 pub fn frames_in(file: &[u8]) -> usize
     requires { ⌜ 7 ≤ length (now file) ⌝ }
-    ensures { λ r. ⌜ (r ≡ framesIn (now (file .entry))) × (r ≤ 65535) ⌝ }
+    ensures { λ r. ⌜ (r ≡ frameCount (now (file .entry))) × (r ≤ 65535) ⌝ }
 {
     half_at(file, 5) as usize
 }
@@ -44,7 +44,7 @@ fn bytes_agree(held: &[u8], total: usize) -> bool
 // The number of a file's refusal: 11 where its bytes do not agree, then 1 where they agree on more frames than
 // a take has, 0 for a take.
 pub fn take_refusal(held: &[u8], total: usize) -> u32
-    ensures { λ r. ⌜ r ≡ refusalOf (now (held .entry)) total ⌝ }
+    ensures { λ r. ⌜ r ≡ fileRefusal (now (held .entry)) total ⌝ }
 {
     if bytes_agree(held, total) {
         if frames_in(held) <= MAX_FRAMES {
@@ -103,10 +103,10 @@ pub fn read_take(
     sonority: &mut [f32],
     vowel: &mut [u8],
 ) -> Settings
-    requires { ⌜ 19 + 17 * framesIn (now file) ≤ length (now file) ⌝ }
-    requires { ⌜ (length (now db) ≡ framesIn (now file)) × (length (now pitch) ≡ framesIn (now file))
-        × (length (now voiced) ≡ framesIn (now file)) × (length (now sonority) ≡ framesIn (now file))
-        × (length (now vowel) ≡ framesIn (now file)) ⌝ }
+    requires { ⌜ 19 + 17 * frameCount (now file) ≤ length (now file) ⌝ }
+    requires { ⌜ (length (now db) ≡ frameCount (now file)) × (length (now pitch) ≡ frameCount (now file))
+        × (length (now voiced) ≡ frameCount (now file)) × (length (now sonority) ≡ frameCount (now file))
+        × (length (now vowel) ≡ frameCount (now file)) ⌝ }
     ensures { λ r. ⌜ record {
       settings = r;
       db = now (db .exit);

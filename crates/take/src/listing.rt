@@ -11,7 +11,7 @@ ghost use Prim.Native.Nat.{_+_, _≤_};
 ghost use lib.ListN.{length};
 ghost use Rattle.lists.specs.Results.{Listed};
 ghost use Rattle.take.specs.Text.{Put};
-ghost use Rattle.take.specs.Listing.{changed, pitchWord, frameLine, markLine, frameLines, markLines, pitchLines, regionLine, listing, refusedListing};
+ghost use Rattle.take.specs.Listing.{repitched, pitchWord, frameLine, markLine, frameLines, markLines, pitchLines, regionLine, listing, refusedListing};
 
 // A word and a number.
 fn frame_line(word: &[u8], frame: u32, out: &mut [u8], at: usize) -> usize
@@ -66,15 +66,15 @@ fn mark_lines(word: &[u8], frames: &[u32], strengths: &[f32], out: &mut [u8], at
 
 // Whether a pitch has other bits than it was given with.
 fn is_changed(given: f32, left: f32) -> bool
-    ensures { λ r. ⌜ r ≡ changed given left ⌝ }
+    ensures { λ r. ⌜ r ≡ repitched given left ⌝ }
 {
     floats::bits::to_bits(given) != floats::bits::to_bits(left)
 }
 
 // The line of a frame whose pitch changed; no line where it did not.
 fn pitch_line(given: f32, left: f32, frame: u32, out: &mut [u8], at: usize) -> usize
-    requires { ⌜ at + length (cond (changed given left) (markLine pitchWord frame left) []) ≤ length (now out) ⌝ }
-    ensures { λ r. ⌜ Put (cond (changed given left) (markLine pitchWord frame left) []) at (now (out .entry)) (now (out .exit))
+    requires { ⌜ at + length (cond (repitched given left) (markLine pitchWord frame left) []) ≤ length (now out) ⌝ }
+    ensures { λ r. ⌜ Put (cond (repitched given left) (markLine pitchWord frame left) []) at (now (out .entry)) (now (out .exit))
         r ⌝ }
 {
     if is_changed(given, left) {

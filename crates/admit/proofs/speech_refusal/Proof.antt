@@ -2,20 +2,19 @@
 use mathlib.Core.Path.{refl, sym}
 use borrow.Author.Needs.{needs}
 use borrow.Author.Tests.{lt-leb, le-leb}
-use Rattle.admit.specs.First.{passes, firstFailed}
 use Rattle.admit.specs.Refusals.{tested, refusal, speechRefusal}
-use Rattle.admit.proofs.First.{stop, numbered, next}
+use Rattle.admit.proofs.First.{passedInTurn, numbered, stop, next}
 use Rattle.admit.proofs.speech_refusal.Statement.{statement}
 use Rattle.admit.proofs.speech_refusal.Tie as tie
 
 returns : tie.Need-returns
-unfolding speechRefusal refusal firstFailed passes tested
+unfolding speechRefusal refusal tested passedInTurn
 returns c = stop _ _ _ (lt-leb _ _ (c .if1 .taken))
 
 returns-2 : tie.Need-returns-2
-unfolding speechRefusal refusal firstFailed passes tested
+unfolding speechRefusal refusal tested passedInTurn
 returns-2 c =
-    numbered _ (c .number-of .ensures)
+    numbered _ _ (c .number-of .ensures)
     (next (sym (le-leb _ _ (c .before .before .before .if1 .left)))
     (next refl
     (next (c .before .before .settings-admitted .ensures)

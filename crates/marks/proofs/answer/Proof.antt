@@ -1,6 +1,6 @@
 -- `marks::answer` meets its contract, by its parts. Assumes nothing.
 use borrow.Author.Needs.{needs}
-use Rattle.input.specs.Held.{joined}
+use Rattle.input.specs.Held.{piecesJoined}
 use Rattle.input.proofs.Adding.{pieces-held}
 use Rattle.marks.proofs.answer.Statement.{statement}
 use Rattle.marks.proofs.answer.Tie as tie
@@ -44,7 +44,7 @@ same-length c = search needs
 returns-2 : tie.Need-returns-2
 returns-2 c =
     let s = rw (c .before .before .before .before .before .before .total .given .1) at (c .before .before .before .before .before .before .before .before .before .read-file .ensures) in
-    (s .0, c .before .before .tell .ensures (joined (s .0)) (pieces-held (s .1)))
+    (s .0, c .before .before .tell .ensures (piecesJoined (s .0)) (pieces-held (s .1)))
 
 same-length-2 : tie.Need-same-length-2
 same-length-2 c = search needs
@@ -52,7 +52,7 @@ same-length-2 c = search needs
 returns-3 : tie.Need-returns-3
 returns-3 c =
     let s = rw (c .before .before .before .before .before .before .total2 .given .1) at (c .before .before .before .before .before .before .before .before .before .read-file .ensures) in
-    (s .0, c .before .before .tell2 .ensures (joined (s .0)) (pieces-held (s .1)))
+    (s .0, c .before .before .tell2 .ensures (piecesJoined (s .0)) (pieces-held (s .1)))
 
 pub answer-spec : {M : Type 1} → statement M
 answer-spec =

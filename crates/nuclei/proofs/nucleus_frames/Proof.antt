@@ -2,11 +2,10 @@
 use borrow.Author.Needs.{needs}
 use native.Mathlib.Omega.{arith}
 use mathlib.Core.Path.{sym, _∙_}
-use lib.ListN.{length}
 use Rattle.lists.proofs.Fill.{listed-fits, listed-count}
 use Rattle.runs.specs.Runs.{longRuns}
-use Rattle.runs.proofs.Spans.{written, holds-in}
-use Rattle.runs.proofs.Spacing.{spaced-within, long-spaced, long-few, syllable-few}
+use Rattle.runs.proofs.Spans.{written}
+use Rattle.runs.proofs.Spacing.{long-few, long-lent, syllable-few}
 use Rattle.nuclei.proofs.Whole.{syllables-written}
 use Rattle.nuclei.proofs.nucleus_frames.Statement.{statement}
 use Rattle.nuclei.proofs.nucleus_frames.Tie as tie
@@ -52,9 +51,8 @@ slice-aggregate-syllables-of-4 c = search needs
 
 syllables-of-requires : tie.Need-syllables-of-requires
 syllables-of-requires c κs =
-    let pitch = c .before .before .before .before .before .before .before .before .before .before .before .before .before .before .before .before .args .pitch .now in
-    let w = written (longRuns pitch) (c .before .before .before .before .before .before .before .before .long-runs .ensures) in
-    (holds-in (length pitch) w (spaced-within 0 (length pitch) (longRuns pitch) (long-spaced pitch)), omega (arith, w .firsts-many, long-few pitch), omega (arith, w .firsts-many, long-few pitch))
+    let l = long-lent _ (c .before .before .before .before .before .before .before .before .long-runs .ensures) in
+    (l .0, omega (arith, l .1), omega (arith, l .1))
 
 array-share-prefix-first-2 : tie.Need-array-share-prefix-first-2
 array-share-prefix-first-2 c = listed-fits (c .before .before .before .before .before .before .before .before .before .before .before .long-runs .ensures .0)

@@ -12,7 +12,7 @@ use Rattle.floats.specs.Total.{valueOf}
 use Rattle.lists.specs.Sorted.{sorted}
 use Rattle.lists.proofs.Ordered.{length-sort}
 use Rattle.region.specs.Percentile as percentile
-use Rattle.region.specs.Percentile.{rankOf, between}
+use Rattle.region.specs.Percentile.{rankOf, byProportion}
 use Rattle.region.proofs.Quiet.{value-at, tenth-is}
 use Rattle.region.proofs.tenth.Statement.{statement}
 use Rattle.region.proofs.tenth.Tie as tie
@@ -74,10 +74,10 @@ returns c =
     w .f32-to-f64-with-nan2 .ensures ∙ w .before .from-total-key2 .ensures ∙ ap valueOf (a .key-above .ensures) ∙ value-at l k (omega arith) in
     let size : length m ≡ length keys = length-map l valueOf ∙ n in
     c .round-to-f32 .ensures
-    ∙ ap (λ (t : Float). between (mul binary64 t (ofInt binary64 (pos last))) b (f .f32-to-f64-with-nan .result) (w .f32-to-f64-with-nan2 .result)) literal
-    ∙ ap (λ (x : Float). between (rankOf (length keys)) b x (w .f32-to-f64-with-nan2 .result)) lo-is
-    ∙ ap (λ (x : Float). between (rankOf (length keys)) b (getD m b nan) x) hi-is
-    ∙ ap (λ (z : ℕ). between (rankOf (length keys)) b (getD m b nan) (getD m (min (b + 1) (z - 1)) nan)) (sym size)
+    ∙ ap (λ (t : Float). byProportion (mul binary64 t (ofInt binary64 (pos last))) b (f .f32-to-f64-with-nan .result) (w .f32-to-f64-with-nan2 .result)) literal
+    ∙ ap (λ (x : Float). byProportion (rankOf (length keys)) b x (w .f32-to-f64-with-nan2 .result)) lo-is
+    ∙ ap (λ (x : Float). byProportion (rankOf (length keys)) b (getD m b nan) x) hi-is
+    ∙ ap (λ (z : ℕ). byProportion (rankOf (length keys)) b (getD m b nan) (getD m (min (b + 1) (z - 1)) nan)) (sym size)
     ∙ tenth-is m (length keys) size (s .pre .1)
 
 pub tenth-spec : {M : Type 1} → statement M

@@ -2,7 +2,7 @@
 use native.Mathlib.Omega.{arith}
 use mathlib.Core.Path.{ap}
 use borrow.Author.Needs.{needs}
-use Rattle.take.specs.File.{Take}
+use Rattle.take.specs.File.{FileTake}
 use Rattle.report.specs.Shown.{textOf, unsampled}
 use Rattle.lists.proofs.Fill.{relisted}
 use Rattle.report.proofs.Parts.{pitches-same}
@@ -42,7 +42,7 @@ same-length-7 : tie.Need-same-length-7
 same-length-7 c = search needs
 
 returns : tie.Need-returns
-returns c = relisted (ap (λ (t : Take). textOf (unsampled t)) (c .before .before .before .before .before .before .before .before .before .before .before .before .before .before .before .before .before .before .before .before .before .before .read-take .ensures)) (c .before .before .before .before .with-lists .ensures)
+returns c = relisted (ap (λ (t : FileTake). textOf (unsampled t)) (c .before .before .before .before .before .before .before .before .before .before .before .before .before .before .before .before .before .before .before .before .before .before .read-take .ensures)) (c .before .before .before .before .with-lists .ensures)
 
 pub on-tracks-spec : {M : Type 1} → statement M
 on-tracks-spec =

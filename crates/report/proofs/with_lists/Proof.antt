@@ -32,8 +32,8 @@ blank-track-requires-2 c κs = search needs
 blank-list-requires-3 : tie.Need-blank-list-requires-3
 blank-list-requires-3 c κs = search needs
 
-blank-list-requires-4 : tie.Need-blank-list-requires-4
-blank-list-requires-4 c κs = search needs
+blank-bounds-requires : tie.Need-blank-bounds-requires
+blank-bounds-requires c κs = search needs
 
 array-borrow-prefix-frames : tie.Need-array-borrow-prefix-frames
 array-borrow-prefix-frames c = search needs
@@ -72,7 +72,7 @@ array-borrow-prefix-bounds : tie.Need-array-borrow-prefix-bounds
 array-borrow-prefix-bounds c = search needs
 
 slice-aggregate-list-marks-6 : tie.Need-slice-aggregate-list-marks-6
-slice-aggregate-list-marks-6 c = sym (length-take-le _ _ (omega (arith, c .before .before .before .before .before .before .before .blank-list4 .ensures)))
+slice-aggregate-list-marks-6 c = sym (length-take-le _ _ (omega (arith, c .before .before .before .before .before .before .before .blank-bounds .ensures)))
 
 list-marks-requires : tie.Need-list-marks-requires
 list-marks-requires c κs =
@@ -85,7 +85,7 @@ list-marks-requires c κs =
     let x = c .before .before .before .before .before .before .before .before .before .before .before .blank-list2 in
     let y = c .before .before .before .before .before .before .before .before .before .before .blank-track2 in
     let e = c .before .before .before .before .before .before .before .before .before .blank-list3 in
-    let b = c .before .before .before .before .before .before .before .before .blank-list4 in
+    let b = c .before .before .before .before .before .before .before .before .blank-bounds in
     ((ap length (p .0), parts-room t (p .1) (f .result) (g .result) (x .result) (y .result) (e .result) (b .result) (f .ensures) (g .ensures) (x .ensures) (y .ensures) (e .ensures) (b .ensures)), s .pre .1)
 
 same-length : tie.Need-same-length
@@ -105,7 +105,7 @@ returns c =
     let x = c .before .before .before .before .before .before .before .before .before .before .before .before .before .before .before .before .before .before .before .before .before .before .blank-list2 in
     let y = c .before .before .before .before .before .before .before .before .before .before .before .before .before .before .before .before .before .before .before .before .before .blank-track2 in
     let e = c .before .before .before .before .before .before .before .before .before .before .before .before .before .before .before .before .before .before .before .before .blank-list3 in
-    let b = c .before .before .before .before .before .before .before .before .before .before .before .before .before .before .before .before .before .before .before .blank-list4 in
+    let b = c .before .before .before .before .before .before .before .before .before .before .before .before .before .before .before .before .before .before .before .blank-bounds in
     relisted (parts-text t (p .1) (f .result) (g .result) (x .result) (y .result) (e .result) (b .result) (f .ensures) (g .ensures) (x .ensures) (y .ensures) (e .ensures) (b .ensures) (p .0)) (c .before .before .before .before .before .before .before .before .before .before .list-marks .ensures)
 
 pub with-lists-spec : {M : Type 1} → statement M
@@ -117,7 +117,7 @@ with-lists-spec =
     blank-list-requires-2
     blank-track-requires-2
     blank-list-requires-3
-    blank-list-requires-4
+    blank-bounds-requires
     array-borrow-prefix-frames
     slice-aggregate-list-marks
     array-borrow-prefix-strengths

@@ -18,14 +18,14 @@ abbrev μ-loop : tie.MeasureT-loop
 loop-holds : tie.Need-loop-holds Inv-loop μ-loop
 loop-holds c = (omega arith, omega arith)
 
-mul-larger : tie.Need-mul-larger Inv-loop μ-loop
-mul-larger c = search needs
+mul-larger-u32 : tie.Need-mul-larger-u32 Inv-loop μ-loop
+mul-larger-u32 c = search needs
 
-shared-slice-read-larger : tie.Need-shared-slice-read-larger Inv-loop μ-loop
-shared-slice-read-larger c = search needs
+shared-slice-read-larger-u32 : tie.Need-shared-slice-read-larger-u32 Inv-loop μ-loop
+shared-slice-read-larger-u32 c = search needs
 
-larger-requires : tie.Need-larger-requires Inv-loop μ-loop
-larger-requires c κs = search needs
+larger-u32-requires : tie.Need-larger-u32-requires Inv-loop μ-loop
+larger-u32-requires c κs = search needs
 
 add-i : tie.Need-add-i Inv-loop μ-loop
 add-i c = omega arith
@@ -38,7 +38,7 @@ loop-again c =
     let l = c .before .before .before in
     let keys = l .before .before .args .keys .now in
     let v = l .loop in
-    (omega arith, ap (λ (m : ℕ). max m (highest (drop (v .i + 1) keys))) (c .larger .ensures) ∙ sym (highest-step keys (v .i) (c .before .before .loop-test .taken) (v .b)) ∙ v .inv .1)
+    (omega arith, ap (λ (m : ℕ). max m (highest (drop (v .i + 1) keys))) (c .larger-u32 .ensures) ∙ sym (highest-step keys (v .i) (c .before .before .loop-test .taken) (v .b)) ∙ v .inv .1)
 
 returns : tie.Need-returns Inv-loop μ-loop
 returns c =
@@ -47,4 +47,4 @@ returns c =
     sym (highest-end keys (v .i) (c .loop-test .left) (v .b)) ∙ v .inv .1
 
 pub greatest-spec : {M : Type 1} → statement M
-greatest-spec = tie.close (tie.spec Inv-loop μ-loop loop-holds mul-larger shared-slice-read-larger larger-requires add-i loop-less loop-again returns)
+greatest-spec = tie.close (tie.spec Inv-loop μ-loop loop-holds mul-larger-u32 shared-slice-read-larger-u32 larger-u32-requires add-i loop-less loop-again returns)

@@ -19,14 +19,14 @@ abbrev μ-loop : tie.MeasureT-loop
 loop-holds : tie.Need-loop-holds Inv-loop μ-loop
 loop-holds c = (omega arith, omega arith, omega (arith, lowest-small (c .before .args .keys .now)))
 
-mul-smaller : tie.Need-mul-smaller Inv-loop μ-loop
-mul-smaller c = search needs
+mul-smaller-u32 : tie.Need-mul-smaller-u32 Inv-loop μ-loop
+mul-smaller-u32 c = search needs
 
-shared-slice-read-smaller : tie.Need-shared-slice-read-smaller Inv-loop μ-loop
-shared-slice-read-smaller c = search needs
+shared-slice-read-smaller-u32 : tie.Need-shared-slice-read-smaller-u32 Inv-loop μ-loop
+shared-slice-read-smaller-u32 c = search needs
 
-smaller-requires : tie.Need-smaller-requires Inv-loop μ-loop
-smaller-requires c κs = search needs
+smaller-u32-requires : tie.Need-smaller-u32-requires Inv-loop μ-loop
+smaller-u32-requires c κs = search needs
 
 add-i : tie.Need-add-i Inv-loop μ-loop
 add-i c = omega arith
@@ -39,7 +39,7 @@ loop-again c =
     let l = c .before .before .before in
     let keys = l .before .before .args .keys .now in
     let v = l .loop in
-    (omega arith, omega arith, ap (λ (m : ℕ). min m (lowest (drop (v .i + 1) keys))) (c .smaller .ensures) ∙ sym (lowest-step keys (v .i) (c .before .before .loop-test .taken) (v .b)) ∙ v .inv .2)
+    (omega arith, omega arith, ap (λ (m : ℕ). min m (lowest (drop (v .i + 1) keys))) (c .smaller-u32 .ensures) ∙ sym (lowest-step keys (v .i) (c .before .before .loop-test .taken) (v .b)) ∙ v .inv .2)
 
 returns : tie.Need-returns Inv-loop μ-loop
 returns c =
@@ -48,4 +48,4 @@ returns c =
     sym (lowest-end keys (v .i) (c .loop-test .left) (v .b) (omega arith)) ∙ v .inv .2
 
 pub least-spec : {M : Type 1} → statement M
-least-spec = tie.close (tie.spec Inv-loop μ-loop loop-holds mul-smaller shared-slice-read-smaller smaller-requires add-i loop-less loop-again returns)
+least-spec = tie.close (tie.spec Inv-loop μ-loop loop-holds mul-smaller-u32 shared-slice-read-smaller-u32 smaller-u32-requires add-i loop-less loop-again returns)

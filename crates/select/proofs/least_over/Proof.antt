@@ -30,8 +30,8 @@ shared-slice-read-over c = search needs
 over-requires : tie.Need-over-requires Inv-loop μ-loop
 over-requires c κs = search needs
 
-smaller-requires : tie.Need-smaller-requires Inv-loop μ-loop
-smaller-requires c κs = search needs
+smaller-u32-requires : tie.Need-smaller-u32-requires Inv-loop μ-loop
+smaller-u32-requires c κs = search needs
 
 add-i : tie.Need-add-i Inv-loop μ-loop
 add-i c = omega arith
@@ -47,7 +47,7 @@ loop-again c =
     let rest = lowestAbove (s .x) (drop (v .i + 1) (s .keys .now)) in (
       omega arith,
       omega arith,
-      ap (λ (m : ℕ). min m rest) (c .smaller .ensures ∙ ap (λ (k : ℕ). min k (v .b)) (c .before .over .ensures))
+      ap (λ (m : ℕ). min m rest) (c .smaller-u32 .ensures ∙ ap (λ (k : ℕ). min k (v .b)) (c .before .over .ensures))
           ∙ sym (above-step (s .keys .now) (v .i) (c .before .before .before .loop-test .taken) (s .x) (v .b) (omega arith))
           ∙ v .inv .2,
     )
@@ -60,4 +60,4 @@ returns c =
 
 pub least-over-spec : {M : Type 1} → statement M
 least-over-spec =
-    tie.close (tie.spec Inv-loop μ-loop loop-holds mul-over shared-slice-read-over over-requires smaller-requires add-i loop-less loop-again returns)
+    tie.close (tie.spec Inv-loop μ-loop loop-holds mul-over shared-slice-read-over over-requires smaller-u32-requires add-i loop-less loop-again returns)

@@ -3,13 +3,13 @@ use Prim.Native.Nat.{_-_}
 use borrow.Author.Needs.{needs}
 use lib.ListN.{length}
 use lib.Ieee.{nan}
-use Rattle.admit.specs.Values.{within}
+use Rattle.floats.specs.Plain.{isBetween}
 use Rattle.admit.proofs.Every.{Tested, tested-start, tested-turn, tested-end}
 use Rattle.admit.proofs.values.all_within.Statement.{statement}
 use Rattle.admit.proofs.values.all_within.Tie as tie
 
 abbrev Inv-loop : tie.InvT-loop
-Inv-loop track lo hi good₀ i₀ good i = Tested (within lo hi) track good i
+Inv-loop track lo hi good₀ i₀ good i = Tested (isBetween lo hi) track good i
 
 abbrev μ-loop : tie.MeasureT-loop
 μ-loop track lo hi good₀ i₀ good i = length track - i

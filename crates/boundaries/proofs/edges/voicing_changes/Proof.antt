@@ -1,6 +1,7 @@
 -- `boundaries::edges::voicing_changes` meets its contract. Assumes nothing.
 use borrow.Author.Needs.{needs}
 use mathlib.Core.Path.{sym, _∙_}
+use lib.Ieee.{ofBits}
 use Rattle.runs.specs.Runs.{voiced}
 use Rattle.boundaries.proofs.Turns.{changed-is}
 use Rattle.boundaries.proofs.edges.voicing_changes.Statement.{statement}
@@ -25,11 +26,13 @@ element-copy-out-result : tie.Need-element-copy-out-result
 element-copy-out-result c = search needs
 
 returns : tie.Need-returns
+unfolding ofBits
 returns c =
     let args = c .before .before .before .before .args in
     rw (sym (changed-is (voiced (args .pitch .now)) (args .i)) ∙ c .before .if1 .taken)
 
 returns-2 : tie.Need-returns-2
+unfolding ofBits
 returns-2 c =
     let args = c .before .before .before .args in
     rw (sym (changed-is (voiced (args .pitch .now)) (args .i)) ∙ c .if1 .left)

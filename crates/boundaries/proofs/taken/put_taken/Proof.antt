@@ -1,9 +1,10 @@
 -- `boundaries::taken::put_taken` meets its contract. The loop's invariant: out is filled with the kept frames below x. Assumes nothing.
 use native.Mathlib.Omega.{arith}
 use borrow.Author.Needs.{needs}
-use Prim.Native.Nat.{_+_, _-_, _≤_, zero-le}
+use Prim.Native.Nat.{_+_, _-_, _≤_, _<_, zero-le}
 use native.Mathlib.Nat.{sub-zero}
 use mathlib.Core.Logic.{⊎-elim}
+use lib.ListN.{length}
 use borrow.Author.Tests.{eq-eqb, ne-eqb}
 use Rattle.lists.specs.Results.{keep}
 use Rattle.lists.proofs.Fill.{Filling, fill-start, fill-fits, fill-push, fill-length, fill-end, keep-yes, keep-no, keep-over, keep-fits}
@@ -33,14 +34,17 @@ element-copy-out-if1 c = search needs
 cast-out : tie.Need-cast-out Inv-loop μ-loop
 cast-out c = search needs
 
+room : (c : tie.Then1 Inv-loop μ-loop) → c .before .before .before .loop .k < length (c .before .before .before .loop .out)
+room c = fill-fits (keep-yes (λ x. marked (c .before .before .before .before .args .taken .now) (x + 2)) _ _ (c .before .before .loop-test .taken) (eq-eqb _ _ (c .if1 .taken)) (c .before .before .before .loop .inv .1)) .0
+
 mul-out : tie.Need-mul-out Inv-loop μ-loop
-mul-out c = omega (arith, fill-fits (keep-yes (λ x. marked (c .before .before .before .before .args .taken .now) (x + 2)) _ _ (c .before .before .loop-test .taken) (eq-eqb _ _ (c .if1 .taken)) (c .before .before .before .loop .inv .1)))
+mul-out c = omega (arith, room c, fill-length (c .before .before .before .loop .inv .1))
 
 slice-write-out : tie.Need-slice-write-out Inv-loop μ-loop
-slice-write-out c = fill-fits (keep-yes (λ x. marked (c .before .before .before .before .args .taken .now) (x + 2)) _ _ (c .before .before .loop-test .taken) (eq-eqb _ _ (c .if1 .taken)) (c .before .before .before .loop .inv .1)) .0
+slice-write-out c = room c
 
 add-k : tie.Need-add-k Inv-loop μ-loop
-add-k c = omega (arith, fill-fits (keep-yes (λ x. marked (c .before .before .before .before .args .taken .now) (x + 2)) _ _ (c .before .before .loop-test .taken) (eq-eqb _ _ (c .if1 .taken)) (c .before .before .before .loop .inv .1)))
+add-k c = omega (arith, room c, fill-length (c .before .before .before .loop .inv .1))
 
 add-x : tie.Need-add-x Inv-loop μ-loop
 add-x c = search needs

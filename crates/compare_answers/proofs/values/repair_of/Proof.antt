@@ -1,6 +1,7 @@
 -- `values::repair_of` is safe and ends. Assumes nothing.
-use Rattle.compare_answers.proofs.Tested.{passed}
+use mathlib.Core.Path.{sym, _∙_}
 use borrow.Author.Needs.{needs}
+use Rattle.powers.proofs.Ranges.{in-range}
 use Rattle.compare_answers.proofs.values.repair_of.Statement.{statement}
 use Rattle.compare_answers.proofs.values.repair_of.Tie as tie
 
@@ -16,7 +17,7 @@ repair-of-spec =
     let f = c .before .before .before .before .before .is-pitch in
     let a = c .before .before .before .is-pitch2 in
     let b = c .before .is-pitch3 in
-    (passed 20 4000 (x .f) (f .ensures) (c .before .before .before .before .if1 .taken), (passed 20 4000 (x .a) (a .ensures) (c .before .before .if2 .taken), passed 20 4000 (x .b) (b .ensures) (c .if3 .taken))))
+    (in-range 20 4000 (x .f) (sym (f .ensures) ∙ c .before .before .before .before .if1 .taken), (in-range 20 4000 (x .a) (sym (a .ensures) ∙ c .before .before .if2 .taken), in-range 20 4000 (x .b) (sym (b .ensures) ∙ c .if3 .taken))))
     (search needs)
     (search needs)
     (search needs)

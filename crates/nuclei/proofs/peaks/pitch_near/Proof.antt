@@ -3,6 +3,7 @@ use borrow.Author.Needs.{needs}
 use native.Mathlib.Omega.{arith}
 use Prim.Native.Nat.{_-_, _≤_}
 use lib.ListN.{length}
+use lib.Ieee.{ofBits}
 use Rattle.runs.specs.Runs.{voiced}
 use Rattle.nuclei.specs.Peaks.{pitchNear}
 use Rattle.lists.proofs.Walks.{Looking, look-yes, look-on, look-end}
@@ -32,6 +33,7 @@ shared-slice-read-if1 : tie.Need-shared-slice-read-if1 Inv-loop μ-loop
 shared-slice-read-if1 c = search needs
 
 returns : tie.Need-returns Inv-loop μ-loop
+unfolding ofBits
 returns c = look-yes (c .before .before .before .loop .inv .0) (c .before .before .loop-test .taken) (c .if1 .taken)
 
 add-i : tie.Need-add-i Inv-loop μ-loop
@@ -41,6 +43,7 @@ loop-less : tie.Need-loop-less Inv-loop μ-loop
 loop-less c = search needs
 
 loop-again : tie.Need-loop-again Inv-loop μ-loop
+unfolding ofBits
 loop-again c = (look-on (c .before .before .before .loop .inv .0) (c .before .before .loop-test .taken) (c .if1 .left), c .before .before .before .loop .inv .1)
 
 returns-2 : tie.Need-returns-2 Inv-loop μ-loop

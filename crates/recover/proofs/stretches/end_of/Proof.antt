@@ -8,12 +8,12 @@ use mathlib.Core.List.{map}
 use lib.ListN.{length, length-map}
 use Rattle.lists.proofs.Walks.{Seeking, seek-start, seek-on, seek-stop, seek-end}
 use Rattle.recover.specs.Held.{readOf}
-use Rattle.recover.specs.Recovered.{joins}
+use Rattle.recover.specs.Recovered.{starts}
 use Rattle.recover.proofs.stretches.end_of.Statement.{statement}
 use Rattle.recover.proofs.stretches.end_of.Tie as tie
 
 abbrev Inv-loop : tie.InvT-loop
-Inv-loop estimates s i₀ i = Seeking (λ k. not (joins (map readOf estimates) k)) (s + 1) (length (map readOf estimates)) i
+Inv-loop estimates s i₀ i = Seeking (starts (map readOf estimates)) (s + 1) (length (map readOf estimates)) i
 
 abbrev μ-loop : tie.MeasureT-loop
 μ-loop estimates s i₀ i = length estimates - i
@@ -28,9 +28,7 @@ joins-requires : tie.Need-joins-requires Inv-loop μ-loop
 joins-requires c κs = (c .before .before .before .pre .0, (omega (arith, c .before .loop .inv .low), c .loop-test .taken))
 
 returns : tie.Need-returns Inv-loop μ-loop
-returns c =
-    let u = c .before .before .before in
-    seek-stop _ _ _ (u .loop .inv) (omega (arith, length-map (u .before .before .args .estimates .now) readOf, c .before .before .loop-test .taken)) (ap not (sym (c .before .joins .ensures)) ∙ c .if1 .taken)
+returns c = seek-stop _ _ _ (c .before .before .before .loop .inv) (ap not (sym (c .before .joins .ensures)) ∙ c .if1 .taken)
 
 add-i-2 : tie.Need-add-i-2 Inv-loop μ-loop
 add-i-2 c = search needs

@@ -3,7 +3,6 @@ use Prim.Native.Nat.{_≤_, _-_}
 use native.Mathlib.Omega.{arith}
 use mathlib.Core.Logic.{⊎-elim}
 use lib.ListN.{length}
-use borrow.Author.Tests.{lt-ltb, le-ltb}
 use borrow.Author.Needs.{needs}
 use Rattle.runs.proofs.Nearest.{Searching, searching-start, searching-nearer, searching-on, searching-end}
 use Rattle.runs.proofs.near.run_of.Statement.{statement}
@@ -53,8 +52,8 @@ loop-again c =
     let o = c .before .distance-to .ensures in (
       search needs,
       ⊎-elim
-          (λ w. rw (w .1, w .2, o) (searching-nearer _ _ _ h (omega arith) g (lt-ltb _ _ (rw o at (w .0 .taken)))))
-          (λ w. rw (w .1, w .2) (searching-on _ _ _ h (omega arith) g (le-ltb _ _ (rw o at (w .0 .left)))))
+          (λ w. rw (w .1, w .2, o) (searching-nearer _ _ _ h (omega arith) g (rw o at (w .0 .taken))))
+          (λ w. rw (w .1, w .2) (searching-on _ _ _ h (omega arith) g (rw o at (w .0 .left))))
           (c .if1 .came),
     )
 

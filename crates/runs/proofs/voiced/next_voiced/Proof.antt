@@ -3,6 +3,7 @@ use Prim.Native.Nat.{_≤_, _-_}
 use native.Mathlib.Omega.{arith}
 use mathlib.Core.Path.{_≡_, _∙_}
 use lib.ListN.{length}
+use lib.Ieee.{ofBits}
 use borrow.Author.Needs.{needs}
 use Rattle.runs.specs.Ahead.{framesFrom}
 use Rattle.runs.proofs.Walking.{none-here}
@@ -28,6 +29,7 @@ shared-slice-read-if1 : tie.Need-shared-slice-read-if1 Inv-loop μ-loop
 shared-slice-read-if1 c = search needs
 
 returns : tie.Need-returns Inv-loop μ-loop
+unfolding ofBits
 returns c = record { from = search needs; within = search needs; same = c .before .before .before .loop .inv .2; here = λ h. c .if1 .taken }
 
 add-at : tie.Need-add-at Inv-loop μ-loop
@@ -37,6 +39,7 @@ loop-less : tie.Need-loop-less Inv-loop μ-loop
 loop-less c = search needs
 
 loop-again : tie.Need-loop-again Inv-loop μ-loop
+unfolding ofBits
 loop-again c = (search needs, search needs, c .before .before .before .loop .inv .2 ∙ none-here (c .before .before .before .before .before .before .args .pitch .now) (c .before .before .before .loop .at) (c .before .before .loop-test .taken) (c .if1 .left))
 
 returns-2 : tie.Need-returns-2 Inv-loop μ-loop

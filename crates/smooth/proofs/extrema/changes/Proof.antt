@@ -1,15 +1,16 @@
--- `smooth::extrema::changes` meets its contract. The loop's invariant: where no step from j to k is a change, these frames are alike. Assumes nothing.
+-- `smooth::extrema::changes` meets its contract. The loop's invariant: any is 0 only where the value changes after no frame from j to before k. Assumes nothing.
 use Prim.Native.Nat.{_+_, _-_, _≤_}
 use native.Mathlib.Omega.{arith}
 use mathlib.Core.Path.{_≡_, sym, ap, _∙_}
 use borrow.Author.Needs.{needs}
-use Rattle.smooth.specs.Extrema.{flatLast}
-use Rattle.smooth.proofs.Stretches.{Alike, alike-none, alike-last, change-more}
+use Rattle.smooth.specs.Extrema.{changesAfter, flatLast}
+use Rattle.lists.proofs.Walks.{NonePass, none-yet, none-first}
+use Rattle.smooth.proofs.Stretches.{change-more}
 use Rattle.smooth.proofs.extrema.changes.Statement.{statement}
 use Rattle.smooth.proofs.extrema.changes.Tie as tie
 
 abbrev Inv-loop : tie.InvT-loop
-Inv-loop s j end any₀ k₀ any k = (j ≤ k) × (k ≤ j + 16) × (any ≡ 0 → Alike s j k)
+Inv-loop s j end any₀ k₀ any k = (j ≤ k) × (k ≤ j + 16) × (any ≡ 0 → NonePass (changesAfter s) j k)
 
 abbrev μ-loop : tie.MeasureT-loop
 μ-loop s j end any₀ k₀ any k = j + 16 - k
@@ -18,7 +19,7 @@ add-end : tie.Need-add-end Inv-loop μ-loop
 add-end c = search needs
 
 loop-holds : tie.Need-loop-holds Inv-loop μ-loop
-loop-holds c = (omega arith, omega arith, λ e. alike-none (c .before .args .s .now) (c .before .args .j))
+loop-holds c = (omega arith, omega arith, λ e. none-yet (changesAfter (c .before .args .s .now)) (c .before .args .j))
 
 one-change-requires : tie.Need-one-change-requires Inv-loop μ-loop
 one-change-requires c κs = search needs
@@ -42,7 +43,7 @@ returns c =
     λ e.
     let k : l .k ≡ s .j + 16 = omega (arith, l .inv .1, c .loop-test .left) in
     let d : l .k - s .j ≡ 16 = omega (arith, k) in
-    ap (flatLast (s .s .now) (s .j)) (sym d) ∙ alike-last (s .s .now) (s .j) (l .k) (l .inv .0) (l .inv .2 e) ∙ k
+    ap (flatLast (s .s .now) (s .j)) (sym d) ∙ none-first (changesAfter (s .s .now)) (s .j) (l .k) (l .inv .0) (l .inv .2 e) ∙ k
 
 pub changes-spec : {M : Type 1} → statement M
 changes-spec = tie.close (tie.spec Inv-loop μ-loop add-end loop-holds one-change-requires add-k loop-less loop-again returns)

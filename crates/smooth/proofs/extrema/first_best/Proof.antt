@@ -34,7 +34,7 @@ returns : tie.Need-returns Inv-loop μ-loop
 unfolding firstBest
 returns c =
     let l = c .before .before .before .before .loop in
-    (seek-stop _ _ _ (l .inv) (c .before .before .before .loop-test .taken) (unbeaten-test _ _ _ _ (c .before .before .before .before .before .before .before .pre .0) (c .before .before .before .before .before .before .before .pre .1) _ (c .before .before .before .before .before .furthest-between .ensures) (c .before .is-beyond .ensures) ∙ c .if1 .taken), (l .inv .low, l .inv .high))
+    (seek-stop _ _ _ (l .inv) (unbeaten-test _ _ _ _ (c .before .before .before .before .before .before .before .pre .0) (c .before .before .before .before .before .before .before .pre .1) _ (c .before .before .before .before .before .furthest-between .ensures) (c .before .is-beyond .ensures) ∙ c .if1 .taken), (l .inv .low, l .inv .high))
 
 add-i : tie.Need-add-i Inv-loop μ-loop
 add-i c = search needs

@@ -1,14 +1,14 @@
--- `smooth::extrema::flat_last` meets its contract. The loop's invariant: frames i to last are alike. Assumes nothing.
-use Prim.Native.Nat.{_-_, _≤_}
-use native.Mathlib.Omega.{arith}
+-- `smooth::extrema::flat_last` meets its contract. The loop's invariant: the value changes after no frame from i to before last. Assumes nothing.
+use Prim.Native.Nat.{_-_}
 use mathlib.Core.Path.{sym}
 use borrow.Author.Needs.{needs}
-use Rattle.smooth.proofs.Stretches.{Alike, alike-more, alike-end, last-alike}
+use Rattle.smooth.specs.Extrema.{changesAfter}
+use Rattle.lists.proofs.Walks.{Seeking, seek-start, seek-past, seek-on, seek-stop, seek-end}
 use Rattle.smooth.proofs.extrema.flat_last.Statement.{statement}
 use Rattle.smooth.proofs.extrema.flat_last.Tie as tie
 
 abbrev Inv-loop : tie.InvT-loop
-Inv-loop s i b last₀ last = (i ≤ last) × (last ≤ b) × Alike s i last
+Inv-loop s i b last₀ last = Seeking (changesAfter s) i b last
 
 abbrev μ-loop : tie.MeasureT-loop
 μ-loop s i b last₀ last = b - last
@@ -18,9 +18,8 @@ flat-blocks-requires c κs = search needs
 
 loop-holds : tie.Need-loop-holds Inv-loop μ-loop
 loop-holds c =
-    let s = c .before .before .args in
     let f = c .flat-blocks in
-    (f .ensures .0, f .ensures .1, last-alike (s .s .now) (f .result - s .i) (s .i) (f .result) (sym (f .ensures .2)))
+    seek-past _ _ _ (seek-start _ _ _ (c .before .before .pre .0)) _ (f .ensures .1) (sym (f .ensures .2))
 
 add-if1 : tie.Need-add-if1 Inv-loop μ-loop
 add-if1 c = search needs
@@ -40,7 +39,7 @@ shared-slice-read-if1-2 c = search needs
 returns : tie.Need-returns Inv-loop μ-loop
 returns c =
     let l = c .before .before .before .before .loop .inv in
-    (alike-end _ _ _ _ (l .0) (l .1) (l .2) (λ h. c .if1 .taken), (l .0, l .1))
+    (seek-stop _ _ _ l (c .if1 .taken), (l .low, l .high))
 
 add-last : tie.Need-add-last Inv-loop μ-loop
 add-last c = search needs
@@ -49,15 +48,12 @@ loop-less : tie.Need-loop-less Inv-loop μ-loop
 loop-less c = search needs
 
 loop-again : tie.Need-loop-again Inv-loop μ-loop
-loop-again c =
-    let s = c .before .before .before .before .before .before .before .args in
-    let l = c .before .before .before .before .loop in
-    (omega (arith, l .inv .0), omega (arith, c .before .before .before .loop-test .taken), alike-more (s .s .now) (s .i) (l .last) (l .inv .2) (c .if1 .left))
+loop-again c = seek-on _ _ _ (c .before .before .before .before .loop .inv) (c .before .before .before .loop-test .taken) (c .if1 .left)
 
 returns-2 : tie.Need-returns-2 Inv-loop μ-loop
 returns-2 c =
     let l = c .before .loop .inv in
-    (alike-end _ _ _ _ (l .0) (l .1) (l .2) (λ h. absurd (omega (arith, h, c .loop-test .left))), (l .0, l .1))
+    (seek-end _ _ _ l (c .loop-test .left), (l .low, l .high))
 
 pub flat-last-spec : {M : Type 1} → statement M
 flat-last-spec =

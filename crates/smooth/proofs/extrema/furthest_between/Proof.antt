@@ -2,16 +2,16 @@
 use Prim.Native.Nat.{_+_, _-_, _≤_}
 use native.Mathlib.Omega.{arith}
 use mathlib.Core.Path.{_≡_, sym, _∙_}
-use mathlib.Core.List.{foldl}
 use borrow.Author.Needs.{needs}
 use lib.Seq.{slice}
+use Rattle.lists.specs.By.{bestOf}
 use Rattle.smooth.proofs.Best.{furthest-step, furthest-over}
-use Rattle.smooth.specs.Extrema.{further, furthest}
+use Rattle.smooth.specs.Extrema.{beyond, furthest}
 use Rattle.smooth.proofs.extrema.furthest_between.Statement.{statement}
 use Rattle.smooth.proofs.extrema.furthest_between.Tie as tie
 
 abbrev Inv-loop : tie.InvT-loop
-Inv-loop s a b kind m₀ i₀ m i = (a ≤ i) × (i ≤ b + 1) × (foldl (further kind) m (slice i (b + 1) s) ≡ furthest kind (slice a (b + 1) s))
+Inv-loop s a b kind m₀ i₀ m i = (a ≤ i) × (i ≤ b + 1) × (bestOf (beyond kind) m (slice i (b + 1) s) ≡ furthest kind (slice a (b + 1) s))
 
 abbrev μ-loop : tie.MeasureT-loop
 μ-loop s a b kind m₀ i₀ m i = b + 1 - i

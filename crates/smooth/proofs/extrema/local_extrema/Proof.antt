@@ -24,7 +24,7 @@ offer-requires : tie.Need-offer-requires Inv-loop μ-loop
 offer-requires c κs =
     let g = c .before .before .before .before .loop .inv in
     let h = c .before .before .before .loop-test .taken in
-    (g .stretch h .order, h, search needs, scan-room _ _ _ _ _ g h (c .before .before .ends-at .ensures) (c .before .if1 .taken))
+    (g .stretch h .alike .low, h, search needs, scan-room _ _ _ _ _ g h (c .before .before .ends-at .ensures) (c .before .if1 .taken))
 
 add-j : tie.Need-add-j Inv-loop μ-loop
 add-j c = search needs

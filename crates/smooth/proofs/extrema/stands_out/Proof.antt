@@ -14,7 +14,7 @@ returns : tie.Need-returns
 returns c = rw (sym (c .before .before .left-clear .ensures) ∙ c .before .if1 .taken) (c .right-clear .ensures)
 
 returns-2 : tie.Need-returns-2
-returns-2 c = rw (sym (c .before .left-clear .ensures) ∙ c .if1 .left)
+returns-2 c = c .if1 .left ∙ rw (sym (c .before .left-clear .ensures) ∙ c .if1 .left)
 
 pub stands-out-spec : {M : Type 1} → statement M
 stands-out-spec = tie.close (tie.spec left-clear-requires right-clear-requires returns returns-2)

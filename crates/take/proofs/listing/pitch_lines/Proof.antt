@@ -7,7 +7,7 @@ use mathlib.Core.List.{List, []}
 use lib.ListN.{length, getD}
 use lib.Ieee.{nan}
 use borrow.Author.Needs.{needs}
-use Rattle.take.specs.Listing.{markLine, changed, pitchLines, pitchWord}
+use Rattle.take.specs.Listing.{markLine, repitched, pitchLines, pitchWord}
 use Rattle.take.proofs.Puts.{Putting, putting-start, putting-length, putting-room, putting-next, putting-end}
 use Rattle.take.proofs.Lines.{pitchesFrom, pitches-start, pitches-step, pitches-over}
 use Rattle.take.proofs.listing.pitch_lines.Statement.{statement}
@@ -45,7 +45,7 @@ pitch-line-requires c κs =
     let g = c .before .before .before .before .before .before .before .before .args .given .now in
     let f = c .before .before .before .before .before .before .before .before .args .left .now in
     let l = c .before .before .before .before .loop in
-    putting-room (cond (changed (getD g (l .i) nan) (getD f (l .i) nan)) (markLine pitchWord (l .i) (getD f (l .i) nan)) []) (pitchesFrom g f (l .i + 1)) (subst (λ (r : List ℕ). Putting (pitchLines g f) r (c .before .before .before .before .before .before .before .before .args .at) (c .before .before .before .before .before .before .before .before .args .out .now) (l .out) (l .k)) (pitches-step g f (l .i) (c .before .before .before .loop-test .taken)) (l .inv .3))
+    putting-room (cond (repitched (getD g (l .i) nan) (getD f (l .i) nan)) (markLine pitchWord (l .i) (getD f (l .i) nan)) []) (pitchesFrom g f (l .i + 1)) (subst (λ (r : List ℕ). Putting (pitchLines g f) r (c .before .before .before .before .before .before .before .before .args .at) (c .before .before .before .before .before .before .before .before .args .out .now) (l .out) (l .k)) (pitches-step g f (l .i) (c .before .before .before .loop-test .taken)) (l .inv .3))
 
 add-i : tie.Need-add-i Inv-loop μ-loop
 add-i c = search needs
@@ -59,7 +59,7 @@ loop-again c =
     let f = c .before .before .before .before .before .before .before .before .before .before .before .args .left .now in
     let l = c .before .before .before .before .before .before .before .loop in
     let h = c .before .before .before .before .before .before .loop-test .taken in
-    (omega (arith, h), l .inv .1, l .inv .2, putting-next (cond (changed (getD g (l .i) nan) (getD f (l .i) nan)) (markLine pitchWord (l .i) (getD f (l .i) nan)) []) (pitchesFrom g f (l .i + 1)) (subst (λ (r : List ℕ). Putting (pitchLines g f) r (c .before .before .before .before .before .before .before .before .before .before .before .args .at) (c .before .before .before .before .before .before .before .before .before .before .before .args .out .now) (l .out) (l .k)) (pitches-step g f (l .i) h) (l .inv .3)) (c .before .before .pitch-line .ensures))
+    (omega (arith, h), l .inv .1, l .inv .2, putting-next (cond (repitched (getD g (l .i) nan) (getD f (l .i) nan)) (markLine pitchWord (l .i) (getD f (l .i) nan)) []) (pitchesFrom g f (l .i + 1)) (subst (λ (r : List ℕ). Putting (pitchLines g f) r (c .before .before .before .before .before .before .before .before .before .before .before .args .at) (c .before .before .before .before .before .before .before .before .before .before .before .args .out .now) (l .out) (l .k)) (pitches-step g f (l .i) h) (l .inv .3)) (c .before .before .pitch-line .ensures))
 
 same-length : tie.Need-same-length Inv-loop μ-loop
 same-length c = putting-length (c .before .loop .inv .3)
