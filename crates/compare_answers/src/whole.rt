@@ -20,7 +20,6 @@ use super::tables::put_words;
 use super::tables::samples_in;
 use super::tables::track;
 use chain::Marks;
-use lists::sizes::smaller;
 
 // The refusal, the region and the four counts; returns the place after.
 fn put_found(out: &mut [u8], found: Marks) -> usize {
@@ -130,15 +129,11 @@ fn listing_on(file: &[u8], page: &mut [u8], out: &mut [u8]) -> usize {
     if page.len() < 237617 {
         return 0;
     }
-    let n = report::marks_of(
-        part_at(file, 0, smaller(file.len(), 34835)),
-        file.len(),
-        page,
-    );
+    let n = report::marks_of(file, page);
     put_bytes(out, 0, part_at(page, 0, n))
 }
 
-// Kind 56: what `marks` prints for a take file. The bytes past those of the largest take are only counted.
+// Kind 56: what `marks` prints for a take file.
 fn listing(file: &[u8], out: &mut [u8]) -> usize {
     let mut page = blank_page();
     listing_on(file, &mut page, out)

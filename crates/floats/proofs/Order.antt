@@ -11,7 +11,7 @@ use borrow.Author.Tests.{le-leb, lt-leb, leb-true, leb-false, ltb-true}
 use lib.IntN.{ℤ, pos}
 use lib.Ieee.{Float, nan, inf, fin, binary32, up, down, lt, fits, isNan, toBits, ofBits}
 use lib.Ieee.Bits.{ofBits-toBits, toBits-ofBits, toBits-lt}
-use Rattle.floats.specs.Total.{placed, totalKey, unplaced, valueOf, before}
+use Rattle.floats.specs.Total.{placed, totalKey, unplaced, valueOf, notAfter}
 use Rattle.floats.proofs.Less.{le-or-lt}
 use Rattle.floats.proofs.Pattern.{pattern, inUnits, finite-bits, pattern-lt, rise}
 
@@ -67,21 +67,21 @@ pub key-back : (k : ℕ) → k < 4294967296 → T (not (isNan (valueOf k))) → 
 key-back k h n = ap placed (toBits-ofBits binary32 (unplaced k) (unplaced-lt k h) n) ∙ placed-unplaced k h
 
 -- ---- an order
-pub before-refl : (x : Float) → before x x ≡ true
+pub before-refl : (x : Float) → notAfter x x ≡ true
 before-refl x = le-leb (totalKey x) (totalKey x) (le-refl (totalKey x))
 
-pub before-trans : (x y z : Float) → before x y ≡ true → before y z ≡ true → before x z ≡ true
+pub before-trans : (x y z : Float) → notAfter x y ≡ true → notAfter y z ≡ true → notAfter x z ≡ true
 before-trans x y z h k =
     le-leb (totalKey x) (totalKey z) (le-trans (leb-true (totalKey x) (totalKey y) h) (leb-true (totalKey y) (totalKey z) k))
 
-pub before-total : (x y : Float) → (before x y ≡ true) ⊎ (before y x ≡ true)
-before-total x y = go (before x y) refl
+pub before-total : (x y : Float) → (notAfter x y ≡ true) ⊎ (notAfter y x ≡ true)
+before-total x y = go (notAfter x y) refl
   where
-    go : (t : Bool) → before x y ≡ t → (before x y ≡ true) ⊎ (before y x ≡ true)
+    go : (t : Bool) → notAfter x y ≡ t → (notAfter x y ≡ true) ⊎ (notAfter y x ≡ true)
     go true e = inl e
     go false e = inr (le-leb (totalKey y) (totalKey x) (le-of-lt (leb-false (totalKey x) (totalKey y) e)))
 
-pub before-antisym : (x y : Float) → T (fits binary32 x) → T (fits binary32 y) → before x y ≡ true → before y x ≡ true → x ≡ y
+pub before-antisym : (x y : Float) → T (fits binary32 x) → T (fits binary32 y) → notAfter x y ≡ true → notAfter y x ≡ true → x ≡ y
 before-antisym x y p q h k =
     sym (value-back x p) ∙ ap valueOf (le-antisymm (leb-true (totalKey x) (totalKey y) h) (leb-true (totalKey y) (totalKey x) k)) ∙ value-back y q
 
@@ -124,7 +124,7 @@ pub zeros-apart : totalKey (fin true 0 (pos 0)) < totalKey (fin false 0 (pos 0))
 unfolding toBits
 zeros-apart = lit< tt
 
-pub nan-last : (x : Float) → T (fits binary32 x) → before x nan ≡ true
+pub nan-last : (x : Float) → T (fits binary32 x) → notAfter x nan ≡ true
 unfolding toBits
 nan-last nan h = before-refl nan
 nan-last (inf true) h = refl

@@ -21,5 +21,5 @@ abbrev pub valueOf : ℕ → Float
 valueOf k = ofBits binary32 (unplaced k)
 
 -- x stands no later than y: -0.0 before +0.0, a NaN after +infinity
-abbrev pub before : Float → Float → Bool
-before x y = leb (totalKey x) (totalKey y)
+abbrev pub notAfter : Float → Float → Bool
+notAfter x y = leb (totalKey x) (totalKey y)

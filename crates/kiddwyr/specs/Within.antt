@@ -1,5 +1,4 @@
--- What the functions between a list of records and plain lists do: plain lists of 2,048 entries stand for a list of records, and are refused as it would be.
--- No entry's promise speaks of them. Definitions only.
+-- Scaffolding of the layer over records: plain lists of 2,048 entries stand for a list of records, and are refused as it would be. Definitions only.
 use Prim.Native.Nat.{ℕ, _≤_}
 use mathlib.Core.Path.{_≡_}
 use mathlib.Core.List.{List, [], _∷_}

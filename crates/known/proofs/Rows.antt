@@ -41,7 +41,7 @@ use Rattle.admit.specs.Refusals.{tested, refusal, regionRefusal, chainRefusal}
 use Rattle.entries.specs.Stages.{ifAdmitted, spanned}
 use Rattle.chain.specs.Chain.{pitchesOf, readingOf, chainOf}
 use Rattle.take.specs.Fields.{halfAt, wordAt}
-use Rattle.take.specs.File.{agrees, fileRefusal, records, takeIn, readTake}
+use Rattle.take.specs.File.{agrees, refusalBy, records, takeIn, readTake}
 use Rattle.take.specs.Text.{glyph, hexDigits, decimalIn}
 use Rattle.take.specs.Listing.{markLines, pitchLines, regionLine, listing}
 use Rattle.report.specs.Shown.{textOf, printed}
@@ -49,5 +49,5 @@ use Rattle.lists.specs.By.{Each}
 use Rattle.known.specs.Table.{Right, known}
 
 pub known-right : Each Right known
-unfolding known chainOf overlay regionRefusal ifAdmitted spanned eq printed textOf flatMap readingOf pitchesOf filter keep means levels isExtremum localExtrema someFrame allFrames firstFrame lastFrame firstBest extremumMiddle furthest shallow defaults tenthOf regionIn attach grouped voicedFrames voicedRuns longRuns awayBy runOf separate breaksFrom syllablesOf syllableRuns gaps dropoutsOf dropouts breaksIn member inOrder voicedIn neighbours beside repairedAmong repaired tabulate estimates recoveredFrom recoveredBy octaveIn pushBy mergeBy merged pitchNear speechByLevel voicedPeak ontoRun peaksOnto voicedPeaks runsHeld unheldFrom unheld hasTop standsAlone topOf onFlank topsOf candidates oneNucleus louder nucleusFrames nucleiOver nucleiOf unpitched unpitchedPeaks change maySplit splitOf oneSyllable survivor anchors heldBy secondIn seconds edgesBetween sides extraFrames extraEdges extrasOf edgesOf extraCandidates clear tryAdd addAll joint joints jointsInside between pauseEdges creaks inCreak voicingEdges inLongSpan minima chosen boundariesIn dbAdmitted pitchAdmitted allOf firstOf passes firstFailed tested refusal chainRefusal halfAt wordAt agrees fileRefusal records takeIn readTake glyph hexDigits decimalIn markLines pitchLines regionLine listing stepIn cross power nsdf window narrow add sub mul div round ofInt toUnsigned toBits ofBits lt le ne
+unfolding known chainOf overlay regionRefusal ifAdmitted spanned eq printed textOf flatMap readingOf pitchesOf filter keep means levels isExtremum localExtrema someFrame allFrames firstFrame lastFrame firstBest extremumMiddle furthest shallow defaults tenthOf regionIn attach grouped voicedFrames voicedRuns longRuns awayBy runOf separate breaksFrom syllablesOf syllableRuns gaps dropoutsOf dropouts breaksIn member inOrder voicedIn neighbours beside repairedAmong repaired tabulate estimates recoveredFrom recoveredBy octaveIn pushBy mergeBy merged pitchNear speechByLevel voicedPeak ontoRun peaksOnto voicedPeaks runsHeld unheldFrom unheld hasTop standsAlone topOf onFlank topsOf candidates oneNucleus louder nucleusFrames nucleiOver nucleiOf unpitched unpitchedPeaks change maySplit splitOf oneSyllable survivor anchors heldBy secondIn seconds edgesBetween sides extraFrames extraEdges extrasOf edgesOf extraCandidates clear tryAdd addAll joint joints jointsInside between pauseEdges creaks inCreak voicingEdges inLongSpan minima chosen boundariesIn dbAdmitted pitchAdmitted allOf firstOf passes firstFailed tested refusal chainRefusal halfAt wordAt agrees refusalBy records takeIn readTake glyph hexDigits decimalIn markLines pitchLines regionLine listing stepIn cross power nsdf window narrow add sub mul div round ofInt toUnsigned toBits ofBits lt le ne
 known-right = (refl, (refl, (refl, (refl, (refl, (refl, (refl, (refl, (refl, (refl, ((refl, refl), (refl, (refl, (refl, (refl, (refl, (refl, (refl, (refl, (refl, (refl, (refl, (refl, (refl, tt))))))))))))))))))))))))

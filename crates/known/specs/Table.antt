@@ -53,7 +53,7 @@ estimate (suc n) = Hz (ofInt binary64 (pos (suc n)))
 
 -- the definitions that the contracts cite give what the row says; of the recovery, the one that takes the estimates
 abbrev pub Right : Row → Type 0
-Right (prints file text) = printed file (length file) ≡ text
+Right (prints file text) = printed file ≡ text
 Right (marks take lent left) = chainOf take lent ≡ left
 Right (repairs given after) = sameBits (repaired (track given)) (track after) ≡ true
 Right (recovers given found after) = recoveredFrom (track given) (map estimate found) ≡ track after

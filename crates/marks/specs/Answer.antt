@@ -1,16 +1,11 @@
 -- What the program answers to its input. Definitions only.
 use Prim.Native.Nat.{ℕ, _+_, _*_}
 use mathlib.Core.List.{List}
-use lib.ListN.{length}
 use Rattle.lists.specs.Results.{Listed}
 use Rattle.report.specs.Shown.{printed}
 use Rattle.input.specs.Held.{piecesJoined}
 use Rattle.marks.specs.declared.Outcome.{Outcome}
 use Rattle.marks.specs.declared.Outcome.the-variants.{Unread, Told}
-
--- what is printed for an input
-abbrev pub textFor : List ℕ → List ℕ
-textFor whole = printed whole (length whole)
 
 -- the bytes of the longest file whose head can agree: 65,535 frames
 abbrev pub longest : ℕ
@@ -19,4 +14,4 @@ longest = 19 + 17 * 65535
 -- what is answered: the text of the input that the pieces are cut from
 abbrev pub TextAnswered : List ℕ → List ℕ → Outcome → Type 0
 TextAnswered old new Unread = Unit
-TextAnswered old new (Told n) = (pieces : List (List ℕ)) × Listed (textFor (piecesJoined pieces)) old new n
+TextAnswered old new (Told n) = (pieces : List (List ℕ)) × Listed (printed (piecesJoined pieces)) old new n

@@ -3,7 +3,8 @@
 use input::Input;
 use libc::STDERR_FILENO;
 use libc::STDOUT_FILENO;
-use lists::sizes::smaller;
+use take::file::take_refusal;
+use take::listing::refused;
 ghost use mathlib.Core.Path.{_≡_};
 ghost use mathlib.Core.List.{List};
 ghost use Prim.Native.Nat.{ℕ, _≤_};
@@ -13,7 +14,8 @@ ghost use Rattle.take.specs.Listing.{largestListing};
 ghost use Rattle.input.specs.Held.{Holds};
 ghost use Rattle.input.specs.Reading.{Stopped};
 ghost use Rattle.lists.specs.Results.{Listed};
-ghost use Rattle.marks.specs.Answer.{textFor, longest, TextAnswered};
+ghost use Rattle.report.specs.Shown.{printed};
+ghost use Rattle.marks.specs.Answer.{longest, TextAnswered};
 
 // The bytes of a file of 65,535 frames, the most that a head can name: no longer one agrees.
 const LONGEST: usize = 1_114_114;
@@ -45,15 +47,18 @@ fn read_file(file: &mut [u8]) -> Input
     input::read_all(file, LONGEST)
 }
 
-// Writes what is printed for an input of which the file has the first bytes, and answers how many bytes that takes.
+// Writes what is printed for an input of which the file has the first bytes, and answers how many bytes that takes. One that
+// is longer than every take is refused, and its head and size tell by which number.
 fn tell(file: &[u8], total: usize, page: &mut [u8]) -> usize
     requires { ⌜ largest ≤ length (now file) ⌝ }
     requires { ⌜ largestListing ≤ length (now page) ⌝ }
     ensures { λ r. ⌜ ((came : List ℕ) → Holds came (now (file .entry)) total
-        → Listed (textFor came) (now (page .entry)) (now (page .exit)) r) ⌝ }
+        → Listed (printed came) (now (page .entry)) (now (page .exit)) r) ⌝ }
 {
-    let held = smaller(total, file.len());
-    report::marks_of(&file[..held], total, page)
+    if total <= file.len() {
+        return report::marks_of(&file[..total], page);
+    }
+    refused(take_refusal(file, total), page)
 }
 
 // Reads the input and writes what is printed for it. Past the longest file that does not depend on what was left unread.

@@ -9,7 +9,7 @@ use lib.Dec.{T}
 use lib.ListN.{length, drop, getD, length-map, List·getD-map}
 use lib.Ieee.{Float, nan, binary32, fits}
 use lib.Ieee.Scale.{finite}
-use Rattle.floats.specs.Total.{totalKey, valueOf, before}
+use Rattle.floats.specs.Total.{totalKey, valueOf, notAfter}
 use Rattle.lists.specs.Results.{filter}
 use Rattle.lists.specs.By.{sortBy}
 use Rattle.lists.specs.Sorted.{sorted}
@@ -47,7 +47,7 @@ tenth-is s n e h = ap (interpolated s (rankOf n)) (sym (whole-part n h)) ∙ rw 
 
 -- ---- the floor
 pub no-floor : (db : List Float) → length (filter finite db) ≡ 0 → Nothing ≡ floorOf db
-no-floor db e = go (sortBy before (filter finite db)) (length-sort before (filter finite db) ∙ e)
+no-floor db e = go (sortBy notAfter (filter finite db)) (length-sort notAfter (filter finite db) ∙ e)
   where
     go : (s : List Float) → length s ≡ 0 → Nothing ≡ floorIn s
     go [] h = refl
@@ -57,7 +57,7 @@ pub floor-is : (db : List Float) (keys : List ℕ) → Held db → keys ≡ map 
 floor-is db keys held e h =
     ap (λ (z : List ℕ). At (tenthOf (map valueOf (sorted z)))) e
     ∙ ap (λ (z : List Float). At (tenthOf z)) (sorted-values (filter finite db) (each-kept (λ x. T (fits binary32 x)) finite db held))
-    ∙ go (sortBy before (filter finite db)) (rw (length-sort before (filter finite db), ← length-map (filter finite db) totalKey, ← e) h)
+    ∙ go (sortBy notAfter (filter finite db)) (rw (length-sort notAfter (filter finite db), ← length-map (filter finite db) totalKey, ← e) h)
   where
     go : (s : List Float) → 0 < length s → At (tenthOf s) ≡ floorIn s
     go [] g = absurd (omega arith)

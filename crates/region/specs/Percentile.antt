@@ -7,7 +7,7 @@ use lib.ListN.{length, getD}
 use lib.Ieee.{Float, nan, binary64, round, add, sub, mul, ofInt, toUnsigned}
 use lib.Ieee.Scale.{finite}
 use Rattle.floats.specs.Narrow.{narrow}
-use Rattle.floats.specs.Total.{before}
+use Rattle.floats.specs.Total.{notAfter}
 use Rattle.lists.specs.Results.{filter}
 use Rattle.lists.specs.By.{sortBy}
 use Rattle.region.specs.declared.Floor.{Floor}
@@ -44,4 +44,4 @@ floorIn (x ∷ xs) = At (tenthOf (x ∷ xs))
 
 -- of the finite dB, sorted in the total order
 abbrev pub floorOf : List Float → Floor
-floorOf db = floorIn (sortBy before (filter finite db))
+floorOf db = floorIn (sortBy notAfter (filter finite db))

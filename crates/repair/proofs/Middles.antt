@@ -9,7 +9,7 @@ use lib.Seq.{getD-take}
 use lib.Ieee.{Float, nan, binary32, fits, ofBits}
 use lib.Ieee.Bits.{ofBits-fits}
 use lib.Ieee.{le}
-use Rattle.floats.specs.Total.{totalKey, valueOf, unplaced, before}
+use Rattle.floats.specs.Total.{totalKey, valueOf, unplaced, notAfter}
 use Rattle.lists.specs.By.{Each, sortBy}
 use Rattle.lists.specs.Sorted.{IsSorted, sorted}
 use Rattle.lists.proofs.Entries.{each-map, each-at, each-of-map}
@@ -30,14 +30,14 @@ places-back : (ks : List ℕ) → Each PitchPlace ks → map totalKey (map value
 places-back [] h = refl
 places-back (k ∷ ks) h = ap₂ (λ (a : ℕ) (l : List ℕ). a ∷ l) (h .0 .0) (places-back ks (h .1))
 
-sorted-places : (ks : List ℕ) → Each PitchPlace ks → sortBy before (map valueOf ks) ≡ map valueOf (sorted ks)
+sorted-places : (ks : List ℕ) → Each PitchPlace ks → sortBy notAfter (map valueOf ks) ≡ map valueOf (sorted ks)
 sorted-places ks h =
     sym (sorted-values (map valueOf ks) (each-of-map (λ x. T (fits binary32 x)) valueOf ks (each-map PitchPlace (λ k. T (fits binary32 (valueOf k))) (λ k p. ofBits-fits binary32 (unplaced k)) ks h)))
     ∙ ap (λ (l : List ℕ). map valueOf (sorted l)) (places-back ks h)
 
 -- the values at the sorted places
 module _ (ks : List ℕ) (h : Each PitchPlace ks) where
-  pub sorted-value : (i : ℕ) → getD (sortBy before (map valueOf ks)) i nan ≡ valueOf (getD (sorted ks) i 0)
+  pub sorted-value : (i : ℕ) → getD (sortBy notAfter (map valueOf ks)) i nan ≡ valueOf (getD (sorted ks) i 0)
   unfolding ofBits
   sorted-value i = ap (λ (r : List Float). getD r i nan) (sorted-places ks h) ∙ List·getD-map valueOf (sorted ks) i 0
 
@@ -52,7 +52,7 @@ module _ (ks a : List ℕ) (m : ℕ) (h : Each PitchPlace ks) (count : m ≡ len
   sorted-at : (i : ℕ) → i < m → getD (sorted ks) i 0 ≡ getD a i 0
   sorted-at i l = ap (λ (r : List ℕ). getD r i 0) (sym (sorted-only s)) ∙ getD-take m a i 0 l
 
-  at-place : (i : ℕ) → i < m → getD (sortBy before (map valueOf ks)) i nan ≡ valueOf (getD a i 0)
+  at-place : (i : ℕ) → i < m → getD (sortBy notAfter (map valueOf ks)) i nan ≡ valueOf (getD a i 0)
   at-place i l = sorted-value ks h i ∙ ap valueOf (sorted-at i l)
 
   pub place-pitched : (i : ℕ) → i < m → Between 40 2000 (valueOf (getD a i 0))
@@ -63,5 +63,5 @@ module _ (ks a : List ℕ) (m : ℕ) (h : Each PitchPlace ks) (count : m ≡ len
   beside-places f l =
       let e : length (map valueOf ks) ≡ m = length-map ks valueOf ∙ sym count in
       ap₂ (λ (x y : Float). shifted (octaveAt f x y) f)
-      (ap (λ (n : ℕ). getD (sortBy before (map valueOf ks)) ((n - 1) / 2) nan) e ∙ at-place ((m - 1) / 2) (middle-below m l .0))
-      (ap (λ (n : ℕ). getD (sortBy before (map valueOf ks)) (n / 2) nan) e ∙ at-place (m / 2) (middle-below m l .1))
+      (ap (λ (n : ℕ). getD (sortBy notAfter (map valueOf ks)) ((n - 1) / 2) nan) e ∙ at-place ((m - 1) / 2) (middle-below m l .0))
+      (ap (λ (n : ℕ). getD (sortBy notAfter (map valueOf ks)) (n / 2) nan) e ∙ at-place (m / 2) (middle-below m l .1))

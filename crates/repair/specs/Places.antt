@@ -1,5 +1,4 @@
--- Scaffolding of the code's loops: the frames of a run by their places in it, their pitches by their places in the total order, and what is written to a
--- track. Definitions only.
+-- Scaffolding of the code's loops: the frames of a run by their places in it, their pitches by their places in the total order, and what is written to a track. Definitions only.
 use Prim.Native.Nat.{ℕ, _+_, _-_, _≤_, _<_}
 use mathlib.Core.Path.{_≡_}
 use mathlib.Core.Bool.{Bool, cond}

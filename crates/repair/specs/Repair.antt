@@ -6,7 +6,7 @@ use lib.Dec.{ltb}
 use lib.ListN.{length, getD, take, drop}
 use lib.Ieee.{Float, nan, binary32, mul}
 use Rattle.floats.specs.Plain.{half, two}
-use Rattle.floats.specs.Total.{before}
+use Rattle.floats.specs.Total.{notAfter}
 use Rattle.lists.specs.Frames.{at, tabulate}
 use Rattle.lists.specs.Results.{keep, filter}
 use Rattle.lists.specs.By.{Each, sortBy}
@@ -34,11 +34,11 @@ neighbours run i = lastFew 5 (filter (λ j. ltb j i) run) ++ take 5 (filter (λ 
 
 -- the lower of the two middle values in IEEE 754's total order; of an odd count, the middle one
 abbrev pub lowerMiddle : List Float → Float
-lowerMiddle values = getD (sortBy before values) ((length values - 1) / 2) nan
+lowerMiddle values = getD (sortBy notAfter values) ((length values - 1) / 2) nan
 
 -- the upper of the two; of an odd count, the middle one again
 abbrev pub upperMiddle : List Float → Float
-upperMiddle values = getD (sortBy before values) (length values / 2) nan
+upperMiddle values = getD (sortBy notAfter values) (length values / 2) nan
 
 -- a pitch as it is, an octave lower, or an octave higher
 abbrev pub shifted : Octave → Float → Float

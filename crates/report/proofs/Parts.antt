@@ -141,10 +141,10 @@ module _ (file : List ℕ) where
   unfolding takeIn
   pitches-same {t} {given} {n} h g e = g ∙ ap (λ (k : ℕ). trackAt 4 (records k (drop 19 file))) h ∙ sym (ap (λ (z : FileTake). z .pitch) e)
 
-  pub taken-printed : (total : ℕ) → fileRefusal file total ≡ 0 → textOf (unsampled (takeIn file)) ≡ printed file total
+  pub taken-printed : fileRefusal file ≡ 0 → textOf (unsampled (takeIn file)) ≡ printed file
   unfolding printed readTake
-  taken-printed total h = rw (eq-eqb (fileRefusal file total) 0 h)
+  taken-printed h = rw (eq-eqb (fileRefusal file) 0 h)
 
-  pub refused-printed : (total : ℕ) → (fileRefusal file total ≡ 0 → ⊥) → refusedListing (fileRefusal file total) ≡ printed file total
+  pub refused-printed : (fileRefusal file ≡ 0 → ⊥) → refusedListing (fileRefusal file) ≡ printed file
   unfolding printed readTake
-  refused-printed total h = rw (ne-eqb (fileRefusal file total) 0 h)
+  refused-printed h = rw (ne-eqb (fileRefusal file) 0 h)

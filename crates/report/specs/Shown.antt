@@ -8,11 +8,9 @@ use lib.ListN.{length, take}
 use lib.Ieee.{Float}
 use Rattle.nuclei.specs.Nuclei.{framesOf, strengthsOf}
 use Rattle.chain.specs.Chain.{Take, Reading, Lists, Left, takeOf, readingOf, answered, refusalFor}
-use Rattle.take.specs.File.{readTake}
-use Rattle.take.specs.File.{FileTake, FileReading}
+use Rattle.take.specs.File.{FileTake, FileReading, readTake}
 use Rattle.take.specs.File.FileReading.{refused, taken}
-use Rattle.take.specs.Listing.{listing, refusedListing}
-use Rattle.take.specs.Listing.{Marks as Told}
+use Rattle.take.specs.Listing.{listing, refusedListing, Marks as Told}
 
 -- ---- a take
 -- what its listing tells: the pitches as given beside those of its reading, and the reading's marks
@@ -55,9 +53,9 @@ abbrev pub answerTo : FileReading → List ℕ
 answerTo (refused number) = refusedListing number
 answerTo (taken t) = textOf (unsampled t)
 
--- what the program prints for a file of `total` bytes, of which `held` are the first
-unfoldable pub printed : List ℕ → ℕ → List ℕ
-printed held total = answerTo (readTake held total)
+-- what the program prints for it
+unfoldable pub printed : List ℕ → List ℕ
+printed file = answerTo (readTake file)
 
 -- ---- a call of the chain
 -- the text of what it answers and leaves: the entries that it answers for, and nothing past them

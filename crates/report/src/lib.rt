@@ -228,15 +228,14 @@ fn with_tracks(file: &[u8], out: &mut [u8]) -> usize
     )
 }
 
-// Writes what `marks` prints for a file of `total` bytes, of which the first are held, to the front of a lent list,
-// and returns how many bytes that is. Of a file longer than the largest take only that many need be held.
-pub fn marks_of(held: &[u8], total: usize, out: &mut [u8]) -> usize
+// Writes what `marks` prints for a file to the front of a lent list, and returns how many bytes that is.
+pub fn marks_of(file: &[u8], out: &mut [u8]) -> usize
     requires { ⌜ largestListing ≤ length (now out) ⌝ }
-    ensures { λ r. ⌜ Listed (printed (now (held .entry)) total) (now (out .entry)) (now (out .exit)) r ⌝ }
+    ensures { λ r. ⌜ Listed (printed (now (file .entry))) (now (out .entry)) (now (out .exit)) r ⌝ }
 {
-    let number = take_refusal(held, total);
+    let number = take_refusal(file, file.len());
     if number == 0 {
-        return with_tracks(held, out);
+        return with_tracks(file, out);
     }
     refused(number, out)
 }

@@ -19,7 +19,8 @@ use Rattle.lists.proofs.Counting.{neither}
 use Rattle.lists.proofs.Walks.{NonePass, none-more, Seeking, seek-start, seek-on, seek-past, seek-found, back-found}
 use Rattle.lists.proofs.Fill.{Filling, fill-start, fill-pushed, fill-fitsIf, fill-end, keep-step, keep-over, keep-fits, keep-pass}
 use Rattle.smooth.specs.declared.extrema.Extremum.{Extremum}
-use Rattle.smooth.specs.Extrema.{changesAfter, flatLast, middle, peaksAt, isExtremum, inside, localExtrema, offered}
+use Rattle.smooth.specs.Extrema.{changesAfter, flatLast, middle, peaksAt, isExtremum, inside, localExtrema}
+use Rattle.smooth.specs.Offered.{offered}
 
 -- ---- frames of which at most one passes
 module _ (t : ℕ → Bool) (n : ℕ) where

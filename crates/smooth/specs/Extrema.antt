@@ -59,10 +59,6 @@ inside lo hi i = leb lo i && ltb i hi
 unfoldable pub localExtrema : List Float → ℕ → ℕ → Extremum → List ℕ
 localExtrema s lo hi kind = keep (λ i. isExtremum kind s i && inside lo hi i) 0 (length s)
 
--- the flat stretch first .. last is beyond what surrounds it, and its middle is in lo .. hi
-abbrev pub offered : Extremum → List Float → ℕ → ℕ → ℕ → ℕ → Bool
-offered kind s lo hi first last = (leftClear kind s first && rightClear kind s last) && inside lo hi (middle first last)
-
 -- ---- the extremum of the frames from a to b
 -- no frame from a to b is beyond frame i
 abbrev pub unbeaten : Extremum → List Float → ℕ → ℕ → ℕ → Bool

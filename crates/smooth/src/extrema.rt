@@ -6,7 +6,8 @@ ghost use lib.ListN.{length};
 ghost use lib.Seq.{slice};
 ghost use lib.Dec.{leb};
 ghost use Rattle.lists.specs.Results.{Listed, Pushed, moreIf};
-ghost use Rattle.smooth.specs.Extrema.{beyond, unreached, further, lower, furthest, leftClear, rightClear, middle, localExtrema, firstBest, changesAfter, flatLast, extremumMiddle, argminMiddle, argmaxMiddle, offered, shallow};
+ghost use Rattle.smooth.specs.Extrema.{beyond, unreached, further, lower, furthest, leftClear, rightClear, middle, localExtrema, firstBest, changesAfter, flatLast, extremumMiddle, argminMiddle, argmaxMiddle, shallow};
+ghost use Rattle.smooth.specs.Offered.{offered};
 
 pub enum Extremum {
     Max,

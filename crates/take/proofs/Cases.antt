@@ -5,7 +5,7 @@ use mathlib.Core.List.{[], _∷_, flatMap}
 use lib.Ieee.{binary32, ofBits, toBits}
 use Rattle.lists.specs.Results.{keep}
 use Rattle.take.specs.Fields.{halfAt, wordAt}
-use Rattle.take.specs.File.{agrees, fileRefusal}
+use Rattle.take.specs.File.{agrees, refusalBy, fileRefusal}
 use Rattle.take.specs.Text.{glyph, hexDigits, decimalIn}
 use Rattle.take.specs.Listing.{Marks, markLines, pitchLines, regionLine, listing, refusedListing}
 
@@ -22,30 +22,30 @@ unfolding glyph decimalIn
 refused-listing = refl
 
 -- ---- heads: no frames and no byte more; one byte more; one byte less; version 2; a length that is not that of the frames; 2,049 frames; fewer than 7 bytes
-pub empty-take : fileRefusal (0 ∷ 0 ∷ 0 ∷ 15 ∷ 1 ∷ 0 ∷ 0 ∷ 0 ∷ 0 ∷ 0 ∷ 0 ∷ 0 ∷ 0 ∷ 0 ∷ 0 ∷ 0 ∷ 0 ∷ 0 ∷ 0 ∷ []) 19 ≡ 0
-unfolding fileRefusal agrees halfAt wordAt
+pub empty-take : fileRefusal (0 ∷ 0 ∷ 0 ∷ 15 ∷ 1 ∷ 0 ∷ 0 ∷ 0 ∷ 0 ∷ 0 ∷ 0 ∷ 0 ∷ 0 ∷ 0 ∷ 0 ∷ 0 ∷ 0 ∷ 0 ∷ 0 ∷ []) ≡ 0
+unfolding refusalBy agrees halfAt wordAt
 empty-take = refl
 
-pub byte-more : fileRefusal (0 ∷ 0 ∷ 0 ∷ 15 ∷ 1 ∷ 0 ∷ 0 ∷ 0 ∷ 0 ∷ 0 ∷ 0 ∷ 0 ∷ 0 ∷ 0 ∷ 0 ∷ 0 ∷ 0 ∷ 0 ∷ 0 ∷ []) 20 ≡ 11
-unfolding fileRefusal agrees halfAt wordAt
+pub byte-more : fileRefusal (0 ∷ 0 ∷ 0 ∷ 15 ∷ 1 ∷ 0 ∷ 0 ∷ 0 ∷ 0 ∷ 0 ∷ 0 ∷ 0 ∷ 0 ∷ 0 ∷ 0 ∷ 0 ∷ 0 ∷ 0 ∷ 0 ∷ 0 ∷ []) ≡ 11
+unfolding refusalBy agrees halfAt wordAt
 byte-more = refl
 
-pub byte-less : fileRefusal (0 ∷ 0 ∷ 0 ∷ 15 ∷ 1 ∷ 0 ∷ 0 ∷ 0 ∷ 0 ∷ 0 ∷ 0 ∷ 0 ∷ 0 ∷ 0 ∷ 0 ∷ 0 ∷ 0 ∷ 0 ∷ []) 18 ≡ 11
-unfolding fileRefusal agrees halfAt wordAt
+pub byte-less : fileRefusal (0 ∷ 0 ∷ 0 ∷ 15 ∷ 1 ∷ 0 ∷ 0 ∷ 0 ∷ 0 ∷ 0 ∷ 0 ∷ 0 ∷ 0 ∷ 0 ∷ 0 ∷ 0 ∷ 0 ∷ 0 ∷ []) ≡ 11
+unfolding refusalBy agrees halfAt wordAt
 byte-less = refl
 
-pub other-version : fileRefusal (0 ∷ 0 ∷ 0 ∷ 15 ∷ 2 ∷ 0 ∷ 0 ∷ 0 ∷ 0 ∷ 0 ∷ 0 ∷ 0 ∷ 0 ∷ 0 ∷ 0 ∷ 0 ∷ 0 ∷ 0 ∷ 0 ∷ []) 19 ≡ 11
-unfolding fileRefusal agrees halfAt wordAt
+pub other-version : fileRefusal (0 ∷ 0 ∷ 0 ∷ 15 ∷ 2 ∷ 0 ∷ 0 ∷ 0 ∷ 0 ∷ 0 ∷ 0 ∷ 0 ∷ 0 ∷ 0 ∷ 0 ∷ 0 ∷ 0 ∷ 0 ∷ 0 ∷ []) ≡ 11
+unfolding refusalBy agrees halfAt wordAt
 other-version = refl
 
-pub other-length : fileRefusal (0 ∷ 0 ∷ 0 ∷ 15 ∷ 1 ∷ 0 ∷ 1 ∷ 0 ∷ 0 ∷ 0 ∷ 0 ∷ 0 ∷ 0 ∷ 0 ∷ 0 ∷ 0 ∷ 0 ∷ 0 ∷ 0 ∷ []) 19 ≡ 11
-unfolding fileRefusal agrees halfAt wordAt
+pub other-length : fileRefusal (0 ∷ 0 ∷ 0 ∷ 15 ∷ 1 ∷ 0 ∷ 1 ∷ 0 ∷ 0 ∷ 0 ∷ 0 ∷ 0 ∷ 0 ∷ 0 ∷ 0 ∷ 0 ∷ 0 ∷ 0 ∷ 0 ∷ []) ≡ 11
+unfolding refusalBy agrees halfAt wordAt
 other-length = refl
 
-pub frame-more : fileRefusal (0 ∷ 0 ∷ 136 ∷ 32 ∷ 1 ∷ 8 ∷ 1 ∷ []) 34852 ≡ 1
-unfolding fileRefusal agrees halfAt wordAt
+pub frame-more : refusalBy (0 ∷ 0 ∷ 136 ∷ 32 ∷ 1 ∷ 8 ∷ 1 ∷ []) 34852 ≡ 1
+unfolding refusalBy agrees halfAt wordAt
 frame-more = refl
 
-pub no-head : fileRefusal (0 ∷ 0 ∷ 0 ∷ 15 ∷ 1 ∷ 0 ∷ []) 6 ≡ 11
-unfolding fileRefusal agrees halfAt wordAt
+pub no-head : fileRefusal (0 ∷ 0 ∷ 0 ∷ 15 ∷ 1 ∷ 0 ∷ []) ≡ 11
+unfolding refusalBy agrees halfAt wordAt
 no-head = refl

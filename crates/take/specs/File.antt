@@ -12,18 +12,21 @@ use Rattle.take.specs.Fields.{halfAt, wordAt, floatAt}
 abbrev pub frameCount : List ℕ → ℕ
 frameCount file = halfAt file 5
 
--- the bytes of the largest take, 2,048 frames; those past them need only be counted
+-- the bytes of the largest take, 2,048 frames
 abbrev pub largest : ℕ
 largest = 19 + 17 * 2048
 
--- of a file of `total` bytes `held` are the first: whether the head is there, the version is 1, the length is that of
--- the frames, and as many bytes follow
+-- whether the first bytes of a file agree with its size: the head is there, the version is 1, the length is that of the frames, and as many bytes follow
 unfoldable pub agrees : List ℕ → ℕ → Bool
-agrees held total = leb 7 (length held) && (eqb (getD held 4 0) 1 && (eqb (wordAt held 0) (15 + 17 * frameCount held) && eqb total (4 + wordAt held 0)))
+agrees head size = leb 7 (length head) && (eqb (getD head 4 0) 1 && (eqb (wordAt head 0) (15 + 17 * frameCount head) && eqb size (4 + wordAt head 0)))
 
--- the refusal's number, 0 where there is none; a take that is not held whole does not agree either
-unfoldable pub fileRefusal : List ℕ → ℕ → ℕ
-fileRefusal held total = cond (agrees held total) (cond (leb (frameCount held) 2048) (cond (leb total (length held)) 0 11) 1) 11
+-- the refusal's number by the first bytes and the size, 0 where there is none
+unfoldable pub refusalBy : List ℕ → ℕ → ℕ
+refusalBy head size = cond (agrees head size) (cond (leb (frameCount head) 2048) 0 1) 11
+
+-- of a whole file
+abbrev pub fileRefusal : List ℕ → ℕ
+fileRefusal file = refusalBy file (length file)
 
 -- n records of 17 bytes
 unfoldable pub records : ℕ → List ℕ → List (List ℕ)
@@ -70,5 +73,5 @@ pub data FileReading : Type 0 where
   refused : ℕ → FileReading
   taken : FileTake → FileReading
 
-unfoldable pub readTake : List ℕ → ℕ → FileReading
-readTake held total = cond (eqb (fileRefusal held total) 0) (taken (takeIn held)) (refused (fileRefusal held total))
+unfoldable pub readTake : List ℕ → FileReading
+readTake file = cond (eqb (fileRefusal file) 0) (taken (takeIn file)) (refused (fileRefusal file))

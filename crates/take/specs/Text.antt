@@ -38,8 +38,7 @@ afterWord (w ∷ ws) = 32 ∷ (w ++ afterWord ws)
 abbrev pub line : List ℕ → List (List ℕ) → List ℕ
 line w ws = w ++ afterWord ws
 
--- what a call leaves that writes `text` after the first `at` bytes of a lent list and returns how many that makes: `old` is
--- lent, `new` comes back
+-- what a call leaves that writes `text` after the first `at` bytes of a lent list and returns how many that makes: `old` is lent, `new` comes back
 pub record Put (text : List ℕ) (at : ℕ) (old new : List ℕ) (r : ℕ) : Type 0 where
   pub count : r ≡ at + length text
   pub room : r ≤ length old

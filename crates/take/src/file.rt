@@ -6,7 +6,7 @@ use region::Settings;
 ghost use mathlib.Core.Path.{_≡_};
 ghost use Prim.Native.Nat.{_+_, _*_, _≤_};
 ghost use lib.ListN.{length, drop};
-ghost use Rattle.take.specs.File.{frameCount, agrees, fileRefusal, records, trackAt, marksIn, settingsIn, takeIn};
+ghost use Rattle.take.specs.File.{frameCount, agrees, refusalBy, records, trackAt, marksIn, settingsIn, takeIn};
 
 // The most frames of a take.
 const MAX_FRAMES: usize = 2048;
@@ -24,34 +24,31 @@ pub fn frames_in(file: &[u8]) -> usize
     half_at(file, 5) as usize
 }
 
-// Whether the bytes of a file agree, of which there are `total` and the first are held.
-fn bytes_agree(held: &[u8], total: usize) -> bool
-    ensures { λ r. ⌜ r ≡ agrees (now (held .entry)) total ⌝ }
+// Whether the first bytes of a file agree with its size.
+fn bytes_agree(head: &[u8], size: usize) -> bool
+    ensures { λ r. ⌜ r ≡ agrees (now (head .entry)) size ⌝ }
 {
-    if held.len() < 7 {
+    if head.len() < 7 {
         return false;
     }
-    if held[4] != 1 {
+    if head[4] != 1 {
         return false;
     }
-    let length = word_at(held, 0) as usize;
-    if length != 15 + RECORD * frames_in(held) {
+    let length = word_at(head, 0) as usize;
+    if length != 15 + RECORD * frames_in(head) {
         return false;
     }
-    total == 4 + length
+    size == 4 + length
 }
 
-// The number of a file's refusal: 11 where its bytes do not agree, then 1 where they agree on more frames than
-// a take has, 0 for a take.
-pub fn take_refusal(held: &[u8], total: usize) -> u32
-    ensures { λ r. ⌜ r ≡ fileRefusal (now (held .entry)) total ⌝ }
+// The number of a file's refusal, by its first bytes and its size: 11 where they do not agree, then 1 where they agree on
+// more frames than a take has, 0 for a take.
+pub fn take_refusal(head: &[u8], size: usize) -> u32
+    ensures { λ r. ⌜ r ≡ refusalBy (now (head .entry)) size ⌝ }
 {
-    if bytes_agree(held, total) {
-        if frames_in(held) <= MAX_FRAMES {
-            if total <= held.len() {
-                return 0;
-            }
-            return 11;
+    if bytes_agree(head, size) {
+        if frames_in(head) <= MAX_FRAMES {
+            return 0;
         }
         return 1;
     }

@@ -1,4 +1,5 @@
 -- `report::marks_of` meets its contract: a refused file is told, and a take has what the calls ask. Assumes nothing.
+use native.Mathlib.Nat.{le-of-eq}
 use native.Mathlib.Omega.{arith}
 use mathlib.Core.Path.{sym, ap, _∙_}
 use borrow.Author.Needs.{needs}
@@ -16,13 +17,13 @@ take-refusal-requires c κs = search needs
 with-tracks-requires : tie.Need-with-tracks-requires
 with-tracks-requires c κs =
     let t = admitted _ _ (sym (c .before .before .take-refusal .ensures) ∙ c .before .if1 .taken) in
-    ((t .0, t .1), c .before .before .before .before .before .pre)
+    ((t .0, le-of-eq (sym (t .1))), c .before .before .before .before .before .pre)
 
 same-length : tie.Need-same-length
 same-length c = search needs
 
 returns : tie.Need-returns
-returns c = relisted (taken-printed (c .before .before .before .before .before .before .before .before .args .held .now) (c .before .before .before .before .before .before .before .before .args .total) (sym (c .before .before .before .before .before .take-refusal .ensures) ∙ c .before .before .before .before .if1 .taken)) (c .before .before .with-tracks .ensures)
+returns c = relisted (taken-printed (c .before .before .before .before .before .before .before .before .args .file .now) (sym (c .before .before .before .before .before .take-refusal .ensures) ∙ c .before .before .before .before .if1 .taken)) (c .before .before .with-tracks .ensures)
 
 refused-requires : tie.Need-refused-requires
 refused-requires c κs = omega (arith, refused-fits (c .before .before .take-refusal .result), c .before .before .before .before .before .pre)
@@ -31,7 +32,7 @@ same-length-2 : tie.Need-same-length-2
 same-length-2 c = search needs
 
 returns-2 : tie.Need-returns-2
-returns-2 c = relisted (ap refusedListing (c .before .before .before .before .before .take-refusal .ensures) ∙ refused-printed (c .before .before .before .before .before .before .before .before .args .held .now) (c .before .before .before .before .before .before .before .before .args .total) (λ e. c .before .before .before .before .if1 .left (c .before .before .before .before .before .take-refusal .ensures ∙ e))) (c .before .before .refused .ensures)
+returns-2 c = relisted (ap refusedListing (c .before .before .before .before .before .take-refusal .ensures) ∙ refused-printed (c .before .before .before .before .before .before .before .before .args .file .now) (λ e. c .before .before .before .before .if1 .left (c .before .before .before .before .before .take-refusal .ensures ∙ e))) (c .before .before .refused .ensures)
 
 pub marks-of-spec : {M : Type 1} → statement M
 marks-of-spec =

@@ -9,7 +9,8 @@ use lib.ListN.{set}
 use Rattle.lists.specs.Results.{Pushed}
 use Rattle.lists.proofs.Fill.{pushed-yes, pushed-no}
 use Rattle.lists.specs.Frames.{at}
-use Rattle.smooth.specs.Extrema.{middle, offered}
+use Rattle.smooth.specs.Extrema.{middle}
+use Rattle.smooth.specs.Offered.{offered}
 use Rattle.smooth.proofs.extrema.offer.Statement.{statement}
 use Rattle.smooth.proofs.extrema.offer.Tie as tie
 

@@ -3,7 +3,7 @@ use Prim.Native.Nat.{ℕ, _+_, _*_}
 use mathlib.Core.Path.{sym, ap, _∙_}
 use lib.Dec.{eqb}
 use borrow.Author.Needs.{needs}
-use Rattle.take.proofs.Agreement.{no-head, no-version, no-length, then-total}
+use Rattle.take.proofs.Agreement.{no-head, no-version, no-length, then-size}
 use Rattle.take.proofs.file.bytes_agree.Statement.{statement}
 use Rattle.take.proofs.file.bytes_agree.Tie as tie
 
@@ -38,7 +38,7 @@ add-result : tie.Need-add-result
 add-result c = search needs
 
 returns-4 : tie.Need-returns-4
-returns-4 c = ap (λ (n : ℕ). eqb (c .before .before .before .before .before .before .before .args .total) (4 + n)) (c .before .before .word-at .ensures) ∙ sym (then-total _ _ (c .before .before .before .before .before .if1 .left) (c .before .before .before .if2 .left) (sym (c .before .before .word-at .ensures) ∙ c .if3 .left ∙ ap (λ (n : ℕ). 15 + 17 * n) (c .before .frames-in .ensures .0)))
+returns-4 c = ap (λ (n : ℕ). eqb (c .before .before .before .before .before .before .before .args .size) (4 + n)) (c .before .before .word-at .ensures) ∙ sym (then-size _ _ (c .before .before .before .before .before .if1 .left) (c .before .before .before .if2 .left) (sym (c .before .before .word-at .ensures) ∙ c .if3 .left ∙ ap (λ (n : ℕ). 15 + 17 * n) (c .before .frames-in .ensures .0)))
 
 pub bytes-agree-spec : {M : Type 1} → statement M
 bytes-agree-spec =
