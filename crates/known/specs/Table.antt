@@ -112,16 +112,16 @@ k1Text =
 
 -- ---- K2, K3
 -- 0 but for a at 6 to 13 and b at 17 to 25 of 32 frames
-abbrev apart : ℕ → ℕ → List Float
-apart a b = replicate 6 (number 0) ++ replicate 8 (number a) ++ replicate 3 (number 0) ++ replicate 9 (number b) ++ replicate 6 (number 0)
+abbrev twoRuns : ℕ → ℕ → List Float
+twoRuns a b = replicate 6 (number 0) ++ replicate 8 (number a) ++ replicate 3 (number 0) ++ replicate 9 (number b) ++ replicate 6 (number 0)
 
 -- dB -20 at 4 to 27, 200 Hz and then the second pitch
 abbrev pub steppedTo : ℕ → Take
 steppedTo hz =
     record {
       db = replicate 4 (neg (number 60)) ++ replicate 24 (neg (number 20)) ++ replicate 4 (neg (number 60));
-      pitch = apart 200 hz;
-      voiced = apart 1 1;
+      pitch = twoRuns 200 hz;
+      voiced = twoRuns 1 1;
       sonority = replicate 32 (round binary32 false 3 4);
       vowel = replicate 32 0;
       samples = [];
@@ -145,7 +145,7 @@ abbrev pub k2 : Left
 k2 =
     record {
       answer = record { refusal = 0; found = true; start = 4; end = 28; nuclei = 2; extras = 0; edges = 0; boundaries = 4 };
-      pitch = apart 200 238;
+      pitch = twoRuns 200 238;
       lists =
           record {
             frames = 13 ∷ 21 ∷ replicate 30 99;
@@ -162,7 +162,7 @@ abbrev pub k3 : Left
 k3 =
     record {
       answer = record { refusal = 0; found = true; start = 4; end = 28; nuclei = 1; extras = 0; edges = 0; boundaries = 2 };
-      pitch = apart 200 237;
+      pitch = twoRuns 200 237;
       lists =
           record {
             frames = 13 ∷ replicate 31 99;

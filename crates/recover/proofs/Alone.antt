@@ -6,7 +6,7 @@ use mathlib.Core.Bool.{true, false}
 use mathlib.Core.List.{List}
 use borrow.Author.Tests.{le-leb, lt-leb}
 use lib.Ieee.{Float}
-use Rattle.recover.specs.Recovered.{quiet, island}
+use Rattle.recover.specs.Recovered.{allPitchless, island}
 
 module _ (given : List Float) where
   module _ (s e : ℕ) where
@@ -17,13 +17,13 @@ module _ (given : List Float) where
       size : s - a ≡ min 3 s
       size = omega arith
 
-      pub island-before : quiet given a (s - a) ≡ false → false ≡ island given s e
+      pub island-before : allPitchless given a (s - a) ≡ false → false ≡ island given s e
       island-before q =
-          let q′ : quiet given (s - 3) (min 3 s) ≡ false = rw (size, three) at q in
+          let q′ : allPitchless given (s - 3) (min 3 s) ≡ false = rw (size, three) at q in
           rw (le-leb 3 (e - s) long, q′)
 
-      pub island-after : quiet given a (s - a) ≡ true → quiet given e (e + 3 - e) ≡ island given s e
+      pub island-after : allPitchless given a (s - a) ≡ true → allPitchless given e (e + 3 - e) ≡ island given s e
       island-after q =
-          let q′ : quiet given (s - 3) (min 3 s) ≡ true = rw (size, three) at q in
+          let q′ : allPitchless given (s - 3) (min 3 s) ≡ true = rw (size, three) at q in
           let after : e + 3 - e ≡ 3 = omega arith in
           rw (after, le-leb 3 (e - s) long, q′)

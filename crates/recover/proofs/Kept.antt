@@ -23,7 +23,7 @@ use Rattle.nsdf.specs.declared.period.Estimate.{Estimate}
 use Rattle.nsdf.specs.declared.period.Estimate.the-variants.{Nothing, Hz}
 use Rattle.powers.specs.Pitch.{hz, Between, PitchOrNone}
 use Rattle.powers.proofs.Ranges.{enclosed}
-use Rattle.recover.specs.Estimates.{silent, estimates, InRange}
+use Rattle.recover.specs.Estimates.{pitchless, estimates, InRange}
 use Rattle.recover.specs.Recovered.{startOf, endOf, island, stored, recoveredAt, recoveredFrom, recoveredBy}
 use Rattle.recover.proofs.Trying.{estimate-of, untried, estimate-has}
 use Rattle.recover.proofs.Walking.{start-alone, end-alone}
@@ -63,7 +63,7 @@ module _ (period : ℕ → Estimate) (p : List Float) (s v : List ℕ) where
     given-at = getD-any p i zeroF nan h
 
     -- a frame that had a pitch keeps it
-    pub pitch-kept : silent p i ≡ false → at (recoveredBy period p s v) i ≡ at p i
+    pub pitch-kept : pitchless p i ≡ false → at (recoveredBy period p s v) i ≡ at p i
     pitch-kept q = recovered-at ∙ none-kept p (estimates period p s v) i (estimate-of period p s v i h ∙ untried period p s v i q) ∙ given-at
 
     -- any frame keeps what it had, or gets a rounded answer of the estimator

@@ -15,16 +15,16 @@ use Rattle.nsdf.specs.declared.period.Estimate.{Estimate}
 use Rattle.nsdf.specs.declared.period.Estimate.the-variants.{Nothing, Hz}
 use Rattle.nsdf.proofs.Range.{not-both}
 use Rattle.powers.specs.Pitch.{hz, Between, PitchOrNone}
-use Rattle.recover.specs.Estimates.{silent, InRange}
+use Rattle.recover.specs.Estimates.{pitchless, InRange}
 use Rattle.recover.specs.Recovered.{stored}
 use Rattle.recover.specs.Held.{held, readOf}
 
-pub silent-in : (pitch : List Float) (i : ℕ) → i < length pitch → eq (getD pitch i nan) (ofBits binary32 0) ≡ silent pitch i
-silent-in pitch i h = ap (eq (getD pitch i nan)) (zero-bits binary32 false) ∙ ap (λ (x : Float). eq x zeroF) (getD-any pitch i nan zeroF h)
+pub pitchless-in : (pitch : List Float) (i : ℕ) → i < length pitch → eq (getD pitch i nan) (ofBits binary32 0) ≡ pitchless pitch i
+pitchless-in pitch i h = ap (eq (getD pitch i nan)) (zero-bits binary32 false) ∙ ap (λ (x : Float). eq x zeroF) (getD-any pitch i nan zeroF h)
 
-pub silent-out : (pitch : List Float) (i : ℕ) → length pitch ≤ i → true ≡ silent pitch i
+pub pitchless-out : (pitch : List Float) (i : ℕ) → length pitch ≤ i → true ≡ pitchless pitch i
 unfolding eq
-silent-out pitch i h = rw (List·getD-eq-default pitch zeroF h)
+pitchless-out pitch i h = rw (List·getD-eq-default pitch zeroF h)
 
 -- ---- a number that holds an estimate
 pub read-none : readOf zeroF ≡ Nothing

@@ -11,7 +11,7 @@ use Rattle.lists.proofs.Tabulated.{length-tabulate, tabulate-at}
 use Rattle.nsdf.specs.declared.period.Estimate.{Estimate}
 use Rattle.nsdf.specs.declared.period.Estimate.the-variants.{Nothing, Hz}
 use Rattle.nsdf.proofs.Range.{not-both}
-use Rattle.recover.specs.Estimates.{silent, tried, estimateAt, estimates}
+use Rattle.recover.specs.Estimates.{pitchless, tried, estimateAt, estimates}
 use Rattle.recover.specs.Held.{held}
 
 module _ (period : ℕ → Estimate) (p : List Float) (s v : List ℕ) where
@@ -24,7 +24,7 @@ module _ (period : ℕ → Estimate) (p : List Float) (s v : List ℕ) where
   estimate-of i h = tabulate-at (estimateAt period p s v) (length p) i Nothing h
 
   -- a frame with a pitch has no estimate
-  pub untried : (i : ℕ) → silent p i ≡ false → estimateAt period p s v i ≡ Nothing
+  pub untried : (i : ℕ) → pitchless p i ≡ false → estimateAt period p s v i ≡ Nothing
   untried i a = rw a
 
   -- what every answer of the estimator has, a frame's estimate has

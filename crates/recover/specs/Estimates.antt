@@ -13,12 +13,12 @@ use Rattle.nsdf.specs.declared.period.Estimate.the-variants.{Nothing, Hz}
 use Rattle.powers.specs.Pitch.{Between}
 
 -- frame i has no pitch, which +0.0 says, as past the end of the track
-abbrev pub silent : List Float → ℕ → Bool
-silent pitch i = eq (getD pitch i zeroF) zeroF
+abbrev pub pitchless : List Float → ℕ → Bool
+pitchless pitch i = eq (getD pitch i zeroF) zeroF
 
 -- frame i is without pitch, and its marks of speech and of a vowel are both 1; a mark that a list lacks reads as 0
 abbrev pub tried : List Float → List ℕ → List ℕ → ℕ → Bool
-tried pitch speech vowel i = silent pitch i && (eqb (getD speech i 0) 1 && eqb (getD vowel i 0) 1)
+tried pitch speech vowel i = pitchless pitch i && (eqb (getD speech i 0) 1 && eqb (getD vowel i 0) 1)
 
 -- the estimate of frame i, where `period` says what is found around a sample: frames are 160 samples apart
 abbrev pub estimateAt : (ℕ → Estimate) → List Float → List ℕ → List ℕ → ℕ → Estimate

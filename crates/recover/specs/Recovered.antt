@@ -13,7 +13,7 @@ use Rattle.nsdf.specs.declared.period.Estimate.{Estimate}
 use Rattle.nsdf.specs.declared.period.Estimate.the-variants.{Nothing, Hz}
 use Rattle.nsdf.specs.Period.{periodHz}
 use Rattle.powers.specs.Pitch.{stepAt}
-use Rattle.recover.specs.Estimates.{silent, estimates}
+use Rattle.recover.specs.Estimates.{pitchless, estimates}
 
 -- both are there, and within 1.5 semitones of each other
 abbrev pub near : Estimate → Estimate → Bool
@@ -39,12 +39,12 @@ abbrev pub endOf : List Estimate → ℕ → ℕ
 endOf es i = firstFrame (starts es) (i + 1) (length es - (i + 1))
 
 -- none of the k frames from i on has a pitch
-abbrev pub quiet : List Float → ℕ → ℕ → Bool
-quiet given = allFrames (silent given)
+abbrev pub allPitchless : List Float → ℕ → ℕ → Bool
+allPitchless given = allFrames (pitchless given)
 
 -- a stretch from s to before e is recovered if it has 3 frames or more, and neither the 3 before it nor the 3 after it have a pitch
 abbrev pub island : List Float → ℕ → ℕ → Bool
-island given s e = leb 3 (e - s) && (quiet given (s - 3) (min 3 s) && quiet given e 3)
+island given s e = leb 3 (e - s) && (allPitchless given (s - 3) (min 3 s) && allPitchless given e 3)
 
 -- an estimate as a track has it, rounded to f32
 abbrev pub stored : Estimate → Float

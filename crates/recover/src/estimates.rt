@@ -6,7 +6,7 @@ ghost use mathlib.Core.List.{map};
 ghost use Prim.Native.Nat.{_≤_, _<_};
 ghost use lib.ListN.{length, getD};
 ghost use Rattle.nsdf.specs.Period.{periodHz};
-ghost use Rattle.recover.specs.Estimates.{silent, tried, estimateAt, estimates};
+ghost use Rattle.recover.specs.Estimates.{pitchless, tried, estimateAt, estimates};
 ghost use Rattle.recover.specs.Held.{held, readOf};
 
 // An estimate as a list holds it.
@@ -40,8 +40,8 @@ fn mark(marks: &[u8], i: usize) -> u8
 }
 
 // Whether frame i has no pitch: so past the end of the track.
-pub fn is_silent(pitch: &[f32], i: usize) -> bool
-    ensures { λ r. ⌜ r ≡ silent (now (pitch .entry)) i ⌝ }
+pub fn is_pitchless(pitch: &[f32], i: usize) -> bool
+    ensures { λ r. ⌜ r ≡ pitchless (now (pitch .entry)) i ⌝ }
 {
     if i < pitch.len() {
         return pitch[i] == 0.0;
@@ -53,7 +53,7 @@ pub fn is_silent(pitch: &[f32], i: usize) -> bool
 fn is_tried(pitch: &[f32], speech: &[u8], vowel: &[u8], i: usize) -> bool
     ensures { λ r. ⌜ r ≡ tried (now (pitch .entry)) (now (speech .entry)) (now (vowel .entry)) i ⌝ }
 {
-    if is_silent(pitch, i) {
+    if is_pitchless(pitch, i) {
         return mark(speech, i) == 1 && mark(vowel, i) == 1;
     }
     false

@@ -11,7 +11,7 @@ ghost use Rattle.floats.specs.Narrow.{narrow};
 ghost use Rattle.lists.specs.By.{Each};
 ghost use Rattle.lists.specs.Results.{replaced};
 ghost use Rattle.powers.specs.Pitch.{PitchOrNone};
-ghost use Rattle.recover.specs.Recovered.{joins, endOf, quiet, island, recoveredFrom};
+ghost use Rattle.recover.specs.Recovered.{joins, endOf, allPitchless, island, recoveredFrom};
 ghost use Rattle.recover.specs.Held.{readOf};
 
 // Whether frame i goes on with the stretch of the frame before it: not where one of the two has no estimate, nor where they are
@@ -48,13 +48,13 @@ fn end_of(estimates: &[f64], s: usize) -> usize
 }
 
 // Whether no frame from a to before b has a pitch.
-fn is_quiet(pitch: &[f32], a: usize, b: usize) -> bool
+fn are_pitchless(pitch: &[f32], a: usize, b: usize) -> bool
     requires { ⌜ a ≤ b ⌝ }
-    ensures { λ r. ⌜ r ≡ quiet (now (pitch .entry)) a (b - a) ⌝ }
+    ensures { λ r. ⌜ r ≡ allPitchless (now (pitch .entry)) a (b - a) ⌝ }
 {
     let mut i = a;
     while i < b {
-        if !estimates::is_silent(pitch, i) {
+        if !estimates::is_pitchless(pitch, i) {
             return false;
         }
         i += 1;
@@ -82,10 +82,10 @@ fn is_island(given: &[f32], s: usize, e: usize) -> bool
     if e - s < 3 {
         return false;
     }
-    if !is_quiet(given, three_before(s), s) {
+    if !are_pitchless(given, three_before(s), s) {
         return false;
     }
-    is_quiet(given, e, e + 3)
+    are_pitchless(given, e, e + 3)
 }
 
 // Stores the estimates of frames s to before e in the track, each rounded to f32.

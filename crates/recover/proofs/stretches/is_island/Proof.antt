@@ -16,28 +16,28 @@ returns c = island-short (c .before .before .args .given .now) (c .before .befor
 three-before-requires : tie.Need-three-before-requires
 three-before-requires c κs = search needs
 
-is-quiet-requires : tie.Need-is-quiet-requires
-is-quiet-requires c κs = search needs
+are-pitchless-requires : tie.Need-are-pitchless-requires
+are-pitchless-requires c κs = search needs
 
 returns-2 : tie.Need-returns-2
 returns-2 c =
     let a = c .before .before .before .before .before .args in
-    let f = c .before .is-quiet in
+    let f = c .before .are-pitchless in
     let t = c .before .before .three-before in
     island-before (a .given .now) (a .s) (a .e) (c .before .before .before .if1 .left) (t .result) (t .ensures) (sym (f .ensures) ∙ not-true (f .result) (c .if2 .taken))
 
-add-is-quiet : tie.Need-add-is-quiet
-add-is-quiet c = search needs
+add-are-pitchless : tie.Need-add-are-pitchless
+add-are-pitchless c = search needs
 
-is-quiet-requires-2 : tie.Need-is-quiet-requires-2
-is-quiet-requires-2 c κs = search needs
+are-pitchless-requires-2 : tie.Need-are-pitchless-requires-2
+are-pitchless-requires-2 c κs = search needs
 
 returns-3 : tie.Need-returns-3
 returns-3 c =
     let a = c .before .before .before .before .before .before .args in
-    let f = c .before .before .is-quiet in
+    let f = c .before .before .are-pitchless in
     let t = c .before .before .before .three-before in
-    c .is-quiet2 .ensures ∙ island-after (a .given .now) (a .s) (a .e) (c .before .before .before .before .if1 .left) (t .result) (t .ensures) (sym (f .ensures) ∙ not-false (f .result) (c .before .if2 .left))
+    c .are-pitchless2 .ensures ∙ island-after (a .given .now) (a .s) (a .e) (c .before .before .before .before .if1 .left) (t .result) (t .ensures) (sym (f .ensures) ∙ not-false (f .result) (c .before .if2 .left))
 
 pub is-island-spec : {M : Type 1} → statement M
 is-island-spec =
@@ -46,8 +46,8 @@ is-island-spec =
     sub-if1
     returns
     three-before-requires
-    is-quiet-requires
+    are-pitchless-requires
     returns-2
-    add-is-quiet
-    is-quiet-requires-2
+    add-are-pitchless
+    are-pitchless-requires-2
     returns-3)
