@@ -45,7 +45,7 @@ use Rattle.extra.specs.Unpitched.{unpitchedPeaks}
 use Rattle.extra.specs.Split.{splitOf}
 use Rattle.extra.specs.Merging.{oneSyllable, survivor, anchors}
 use Rattle.extra.specs.Seconds.{holds, onlyOne, heldBy, otherPart, afterCut, besides, secondIn, there, frameOf, edgeOf, seconds}
-use Rattle.extra.specs.Extra.{edgesBetween, candidates, sides, extraFrames, extraEdges, ifAsLong, extrasOf, edgesOf}
+use Rattle.extra.specs.Extra.{edgesBetween, extrasFrom, edgesFrom, extraFrames, extraEdges, ifAsLong, extrasOf, edgesOf}
 use Rattle.extra.proofs.Voiceless.{peaks-off}
 use Rattle.extra.proofs.Cuts.{split-within}
 use Rattle.extra.proofs.Whole.{anchors-rise}
@@ -114,11 +114,11 @@ module _ (son : List Float) (kept : List ℕ) where
   second-edges-rise = seconds-rise edgeOf (λ r k f e i. (i .edge-after, i .edge-before))
 
 -- ---- the edges between anchors
-edges-below : (s : List Float) (peak : ℕ → Bool) (lo : ℕ) (kept : List ℕ) → StrictlyRises lo (length s) kept → Each (λ x. x < length s) (edgesBetween s peak kept)
+between-below : (s : List Float) (peak : ℕ → Bool) (lo : ℕ) (kept : List ℕ) → StrictlyRises lo (length s) kept → Each (λ x. x < length s) (edgesBetween s peak kept)
 unfolding edgesBetween
-edges-below s peak lo [] r = tt
-edges-below s peak lo (a ∷ []) r = tt
-edges-below s peak lo (a ∷ b ∷ bs) r = go (peak a || peak b) (edges-below s peak (a + 1) (b ∷ bs) (r .2))
+between-below s peak lo [] r = tt
+between-below s peak lo (a ∷ []) r = tt
+between-below s peak lo (a ∷ b ∷ bs) r = go (peak a || peak b) (between-below s peak (a + 1) (b ∷ bs) (r .2))
   where
     go : (c : Bool) → Each (λ x. x < length s) (edgesBetween s peak (b ∷ bs)) → Each (λ x. x < length s) (consIf c (argminMiddle s a b) (edgesBetween s peak (b ∷ bs)))
     go true on = (omega (arith, middle-within Min s a b (omega (arith, r .2 .0)) (r .2 .1) .1, r .2 .1), on)
@@ -141,24 +141,24 @@ module _ (s pitch son : List Float) (same : length pitch ≡ length s) where
     lone-rise : StrictlyRises 0 (length s) (filter (member peaks) kept)
     lone-rise = filter-rises (member peaks) 0 (length s) kept rises
 
-    pub candidates-below : Each (λ x. x < length s) (candidates pitch son peaks kept)
-    unfolding candidates
-    candidates-below =
+    pub extras-below : Each (λ x. x < length s) (extrasFrom pitch son peaks kept)
+    unfolding extrasFrom
+    extras-below =
         each-append (λ x. x < length s) (filter (member peaks) kept) (map frameOf (seconds son kept (longRuns pitch)))
         (strict-below 0 (length s) (filter (member peaks) kept) lone-rise)
         (strict-below 0 (length s) (map frameOf (seconds son kept (longRuns pitch))) (second-frames-rise son kept 0 (length s) (longRuns pitch) spaced))
 
-    pub sides-below : Each (λ x. x < length s) (sides s pitch son peaks kept)
-    unfolding sides
-    sides-below =
+    pub edges-below : Each (λ x. x < length s) (edgesFrom s pitch son peaks kept)
+    unfolding edgesFrom
+    edges-below =
         each-append (λ x. x < length s) (edgesBetween s (member peaks) kept) (map edgeOf (seconds son kept (longRuns pitch)))
-        (edges-below s (member peaks) 0 kept rises)
+        (between-below s (member peaks) 0 kept rises)
         (strict-below 0 (length s) (map edgeOf (seconds son kept (longRuns pitch))) (second-edges-rise son kept 0 (length s) (longRuns pitch) spaced))
 
     -- a second syllable has a pitch near, and an unpitched peak has none
-    pub candidates-once : Each (λ x. pitchNear pitch x ≡ false) peaks → Once (candidates pitch son peaks kept)
-    unfolding candidates
-    candidates-once off =
+    pub extras-once : Each (λ x. pitchNear pitch x ≡ false) peaks → Once (extrasFrom pitch son peaks kept)
+    unfolding extrasFrom
+    extras-once off =
         let ys = map frameOf (seconds son kept (longRuns pitch)) in
         once-append (filter (member peaks) kept) ys
         (strict-once 0 (length s) (filter (member peaks) kept) lone-rise)
@@ -172,23 +172,23 @@ module _ (s pitch son : List Float) (same : length pitch ≡ length s) where
     -- the extras are the kept unpitched peaks and the second syllables, sorted
     pub extras-sorted :
         let peaks = unpitchedPeaks s pitch son b in
-        IsSorted (candidates pitch son peaks (anchors s p nuclei peaks)) (extraFrames s pitch son b p nuclei)
+        IsSorted (extrasFrom pitch son peaks (anchors s p nuclei peaks)) (extraFrames s pitch son b p nuclei)
     unfolding extraFrames
     extras-sorted =
         let peaks = unpitchedPeaks s pitch son b in
         let kept = anchors s p nuclei peaks in
         let rises = anchors-rise s p nuclei peaks in
-        in-order-sorted (candidates pitch son peaks kept) (length s) (candidates-below peaks kept rises) (candidates-once peaks kept rises (peaks-off s pitch son b))
+        in-order-sorted (extrasFrom pitch son peaks kept) (length s) (extras-below peaks kept rises) (extras-once peaks kept rises (peaks-off s pitch son b))
 
     -- no edge is lost
     pub edges-all : (x : ℕ) →
         let peaks = unpitchedPeaks s pitch son b in
-        member (extraEdges s pitch son b p nuclei) x ≡ member (sides s pitch son peaks (anchors s p nuclei peaks)) x
+        member (extraEdges s pitch son b p nuclei) x ≡ member (edgesFrom s pitch son peaks (anchors s p nuclei peaks)) x
     unfolding extraEdges
     edges-all x =
         let peaks = unpitchedPeaks s pitch son b in
         let kept = anchors s p nuclei peaks in
-        in-order-all (sides s pitch son peaks kept) (length s) (sides-below peaks kept (anchors-rise s p nuclei peaks)) x
+        in-order-all (edgesFrom s pitch son peaks kept) (length s) (edges-below peaks kept (anchors-rise s p nuclei peaks)) x
 
 -- ---- a nucleus that is no unpitched peak is kept
 module _ (s : List Float) (p : Settings) (peak : ℕ → Bool) (f : ℕ) (m : peak f ≡ false) where
@@ -269,9 +269,9 @@ module _ (pitch son : List Float) (peaks kept : List ℕ) (f : ℕ) (m : member 
       let held : holds r f ≡ true = le-leb (distance r f) 2 (omega (arith, i .after, i .before, q)) in
       i .apart (q ∙ only-is (filter (holds r) kept) g f h (member-filter (holds r) kept f ∙ and-both (holds r f) (member kept f) held k))
 
-  pub candidates-off : member (candidates pitch son peaks kept) f ≡ false
-  unfolding candidates
-  candidates-off =
+  pub extras-off : member (extrasFrom pitch son peaks kept) f ≡ false
+  unfolding extrasFrom
+  extras-off =
       let xs = filter (member peaks) kept in
       let ys = map frameOf (seconds son kept (longRuns pitch)) in
       not-holds (member (xs ++ ys) f) (λ e.
@@ -306,12 +306,12 @@ module _ (db pitch son : List Float) (start end : ℕ) (nuclei : List ℕ) (p : 
   -- they rise strictly, below the length of the take
   pub extras-rise : StrictlyRises 0 (length db) (framesOf (extrasOf db pitch son start end nuclei p))
   unfolding extraFrames
-  extras-rise = by-floor (StrictlyRises 0 (length db)) tt (λ x. ordered (candidates pitch son (unpitchedPeaks (levels db) pitch son (boundsOver x p start end)) (anchors (levels db) p nuclei (unpitchedPeaks (levels db) pitch son (boundsOver x p start end)))))
+  extras-rise = by-floor (StrictlyRises 0 (length db)) tt (λ x. ordered (extrasFrom pitch son (unpitchedPeaks (levels db) pitch son (boundsOver x p start end)) (anchors (levels db) p nuclei (unpitchedPeaks (levels db) pitch son (boundsOver x p start end)))))
 
   -- so do their edges
   pub edges-rise : StrictlyRises 0 (length db) (edgesOf db pitch son start end nuclei p)
   unfolding extraEdges
-  edges-rise = edges-by-floor (StrictlyRises 0 (length db)) tt (λ x. ordered (sides (levels db) pitch son (unpitchedPeaks (levels db) pitch son (boundsOver x p start end)) (anchors (levels db) p nuclei (unpitchedPeaks (levels db) pitch son (boundsOver x p start end)))))
+  edges-rise = edges-by-floor (StrictlyRises 0 (length db)) tt (λ x. ordered (edgesFrom (levels db) pitch son (unpitchedPeaks (levels db) pitch son (boundsOver x p start end)) (anchors (levels db) p nuclei (unpitchedPeaks (levels db) pitch son (boundsOver x p start end)))))
 
   -- lists of the take's length have room
   pub extras-few : length (extrasOf db pitch son start end nuclei p) ≤ length db
@@ -331,8 +331,8 @@ module _ (db pitch son : List Float) (start end : ℕ) (nuclei : List ℕ) (p : 
           let peaks = unpitchedPeaks s pitch son (boundsOver x p start end) in
           let kept = anchors s p nuclei peaks in
           let m : member peaks f ≡ false = not-holds (member peaks f) (λ q. true≢false (sym near ∙ each-member (λ y. pitchNear pitch y ≡ false) peaks f (peaks-off s pitch son (boundsOver x p start end)) q)) in
-          let o = candidates-off pitch son peaks kept f m (anchor-kept s p nuclei peaks f m (omega (arith, length-levels db)) e) in
-          in-order-is (candidates pitch son peaks kept) (length s) .holds f ∙ ap (λ (b : Bool). ltb f (length s) && b) o ∙ and-false (ltb f (length s))
+          let o = extras-off pitch son peaks kept f m (anchor-kept s p nuclei peaks f m (omega (arith, length-levels db)) e) in
+          in-order-is (extrasFrom pitch son peaks kept) (length s) .holds f ∙ ap (λ (b : Bool). ltb f (length s) && b) o ∙ and-false (ltb f (length s))
 
 -- in the chain the nuclei are those of the take, and no extra stands on one
 pub chain-apart : (db pitch son : List Float) (start end : ℕ) (p : Settings) → end ≤ length db →

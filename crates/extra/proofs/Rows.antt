@@ -23,7 +23,7 @@ use Rattle.extra.specs.Unpitched.{vowelLike, unpitched, unpitchedPeaks}
 use Rattle.extra.specs.Split.{change, maySplit, splitOf}
 use Rattle.extra.specs.Merging.{oneSyllable, survivor, anchors}
 use Rattle.extra.specs.Seconds.{heldBy, secondIn, seconds}
-use Rattle.extra.specs.Extra.{edgesBetween, candidates, sides, extraFrames, extraEdges, extrasOf, edgesOf}
+use Rattle.extra.specs.Extra.{edgesBetween, extrasFrom, edgesFrom, extraFrames, extraEdges, extrasOf, edgesOf}
 
 -- 0.75 and 0.25
 abbrev high : Float
@@ -45,10 +45,10 @@ quiet = fin true 15 (pos 2)
 
 -- ---- a run that reaches past the region 0 .. 5, loud at the frames before it: the extra and its edge lie outside
 pub outside : (framesOf (extrasOf (replicate 5 loud ++ replicate 7 quiet) (replicate 12 voice) (replicate 6 high ++ replicate 6 low) 0 5 (1 ∷ []) defaults) ≡ 8 ∷ []) × (edgesOf (replicate 5 loud ++ replicate 7 quiet) (replicate 12 voice) (replicate 6 high ++ replicate 6 low) 0 5 (1 ∷ []) defaults ≡ 6 ∷ [])
-unfolding tabulate extrasOf edgesOf extraFrames extraEdges candidates sides edgesBetween seconds secondIn heldBy anchors survivor oneSyllable unpitchedPeaks unpitched vowelLike splitOf maySplit change louder pushBy mergeBy merged speechByLevel pitchNear isExtremum localExtrema someFrame firstFrame lastFrame firstBest extremumMiddle furthest shallow means levels tenthOf defaults voicedFrames voicedRuns longRuns grouped attach keep filter member inOrder narrow lt le eq ne add sub mul div round ofBits ofInt toBits toUnsigned
+unfolding tabulate extrasOf edgesOf extraFrames extraEdges extrasFrom edgesFrom edgesBetween seconds secondIn heldBy anchors survivor oneSyllable unpitchedPeaks unpitched vowelLike splitOf maySplit change louder pushBy mergeBy merged speechByLevel pitchNear isExtremum localExtrema someFrame firstFrame lastFrame firstBest extremumMiddle furthest shallow means levels tenthOf defaults voicedFrames voicedRuns longRuns grouped attach keep filter member inOrder narrow lt le eq ne add sub mul div round ofBits ofInt toBits toUnsigned
 outside = (refl, refl)
 
 -- ---- one frame with no pitch that is a nucleus and an unpitched peak, with no margin: the extra stands on the nucleus
 pub lost-mark : framesOf (extrasOf (loud ∷ []) (zeroF ∷ []) (half ∷ []) 0 1 (0 ∷ []) (record { margin = zeroF; dip = zeroF; gap = 6 })) ≡ 0 ∷ []
-unfolding tabulate extrasOf edgesOf extraFrames extraEdges candidates sides edgesBetween seconds secondIn heldBy anchors survivor oneSyllable unpitchedPeaks unpitched vowelLike splitOf maySplit change louder pushBy mergeBy merged speechByLevel pitchNear isExtremum localExtrema someFrame firstFrame lastFrame firstBest extremumMiddle furthest shallow means levels tenthOf defaults voicedFrames voicedRuns longRuns grouped attach keep filter member inOrder narrow lt le eq ne add sub mul div round ofBits ofInt toBits toUnsigned
+unfolding tabulate extrasOf edgesOf extraFrames extraEdges extrasFrom edgesFrom edgesBetween seconds secondIn heldBy anchors survivor oneSyllable unpitchedPeaks unpitched vowelLike splitOf maySplit change louder pushBy mergeBy merged speechByLevel pitchNear isExtremum localExtrema someFrame firstFrame lastFrame firstBest extremumMiddle furthest shallow means levels tenthOf defaults voicedFrames voicedRuns longRuns grouped attach keep filter member inOrder narrow lt le eq ne add sub mul div round ofBits ofInt toBits toUnsigned
 lost-mark = refl

@@ -29,25 +29,25 @@ edgesBetween s peak (a ∷ b ∷ bs) = consIf (peak a || peak b) (argminMiddle s
 
 -- ---- by the unpitched peaks and the kept anchors
 -- the frames of the extras: the unpitched peaks that are kept, and the second syllables of the long runs
-unfoldable pub candidates : List Float → List Float → List ℕ → List ℕ → List ℕ
-candidates pitch son peaks kept = filter (member peaks) kept ++ map frameOf (seconds son kept (longRuns pitch))
+unfoldable pub extrasFrom : List Float → List Float → List ℕ → List ℕ → List ℕ
+extrasFrom pitch son peaks kept = filter (member peaks) kept ++ map frameOf (seconds son kept (longRuns pitch))
 
 -- their edges
-unfoldable pub sides : List Float → List Float → List Float → List ℕ → List ℕ → List ℕ
-sides s pitch son peaks kept = edgesBetween s (member peaks) kept ++ map edgeOf (seconds son kept (longRuns pitch))
+unfoldable pub edgesFrom : List Float → List Float → List Float → List ℕ → List ℕ → List ℕ
+edgesFrom s pitch son peaks kept = edgesBetween s (member peaks) kept ++ map edgeOf (seconds son kept (longRuns pitch))
 
 -- ---- by the level, in a region
 -- the frames of the extras, in order
 unfoldable pub extraFrames : List Float → List Float → List Float → Bounds → Settings → List ℕ → List ℕ
 extraFrames s pitch son b p nuclei =
     let peaks = unpitchedPeaks s pitch son b in
-    inOrder (candidates pitch son peaks (anchors s p nuclei peaks)) (length s)
+    inOrder (extrasFrom pitch son peaks (anchors s p nuclei peaks)) (length s)
 
 -- their edges, in order, each once
 unfoldable pub extraEdges : List Float → List Float → List Float → Bounds → Settings → List ℕ → List ℕ
 extraEdges s pitch son b p nuclei =
     let peaks = unpitchedPeaks s pitch son b in
-    inOrder (sides s pitch son peaks (anchors s p nuclei peaks)) (length s)
+    inOrder (edgesFrom s pitch son peaks (anchors s p nuclei peaks)) (length s)
 
 -- ---- of a take
 -- a result of a sonority as long as the track; none of another

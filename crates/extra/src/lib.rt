@@ -29,7 +29,7 @@ ghost use Rattle.lists.specs.Sorted.{StrictlyRises};
 ghost use Rattle.lists.specs.Marks.{inOrder};
 ghost use Rattle.region.specs.Speech.{marked};
 ghost use Rattle.nuclei.specs.Nuclei.{NucleiListed, nucleusAt};
-ghost use Rattle.extra.specs.Extra.{edgesBetween, SameLength, ExtrasListed, candidates, sides, extraFrames, extraEdges, extrasOf, edgesOf};
+ghost use Rattle.extra.specs.Extra.{edgesBetween, SameLength, ExtrasListed, extrasFrom, edgesFrom, extraFrames, extraEdges, extrasOf, edgesOf};
 
 // How many extras there are, and how many edges.
 pub struct Counts {
@@ -109,9 +109,9 @@ fn gather(
     requires { ⌜ StrictlyRises 0 (length (now s)) (now peaks) × StrictlyRises 0 (length (now s)) (now kept) ⌝ }
     requires { ⌜ (4096 ≤ length (now frames)) × (4096 ≤ length (now edges)) ⌝ }
     ensures { λ r. ⌜
-        Front (candidates (now (pitch .entry)) (now (son .entry)) (now (peaks .entry)) (now (kept .entry)))
+        Front (extrasFrom (now (pitch .entry)) (now (son .entry)) (now (peaks .entry)) (now (kept .entry)))
         (now (frames .exit)) (r .extras)
-        × Front (sides (now (s .entry)) (now (pitch .entry)) (now (son .entry)) (now (peaks .entry)) (now (kept .entry)))
+        × Front (edgesFrom (now (s .entry)) (now (pitch .entry)) (now (son .entry)) (now (peaks .entry)) (now (kept .entry)))
         (now (edges .exit)) (r .edges) ⌝ }
 {
     let m = marks(peaks);
@@ -142,9 +142,9 @@ fn extras_from(
         × (length (now s) ≤ length (now edges)) ⌝ }
     ensures { λ r. ⌜ ExtrasListed
         (map (nucleusAt (now (s .entry)) floor)
-        (inOrder (candidates (now (pitch .entry)) (now (son .entry)) (now (peaks .entry)) (now (kept .entry)))
+        (inOrder (extrasFrom (now (pitch .entry)) (now (son .entry)) (now (peaks .entry)) (now (kept .entry)))
         (length (now (s .entry)))))
-        (inOrder (sides (now (s .entry)) (now (pitch .entry)) (now (son .entry)) (now (peaks .entry)) (now (kept .entry)))
+        (inOrder (edgesFrom (now (s .entry)) (now (pitch .entry)) (now (son .entry)) (now (peaks .entry)) (now (kept .entry)))
         (length (now (s .entry))))
         (now (frames .entry)) (now (frames .exit)) (now (strengths .entry)) (now (strengths .exit))
         (now (edges .entry)) (now (edges .exit)) r ⌝ }

@@ -67,22 +67,22 @@ pub key-back : (k : ℕ) → k < 4294967296 → T (not (isNan (valueOf k))) → 
 key-back k h n = ap placed (toBits-ofBits binary32 (unplaced k) (unplaced-lt k h) n) ∙ placed-unplaced k h
 
 -- ---- an order
-pub before-refl : (x : Float) → notAfter x x ≡ true
-before-refl x = le-leb (totalKey x) (totalKey x) (le-refl (totalKey x))
+pub not-after-refl : (x : Float) → notAfter x x ≡ true
+not-after-refl x = le-leb (totalKey x) (totalKey x) (le-refl (totalKey x))
 
-pub before-trans : (x y z : Float) → notAfter x y ≡ true → notAfter y z ≡ true → notAfter x z ≡ true
-before-trans x y z h k =
+pub not-after-trans : (x y z : Float) → notAfter x y ≡ true → notAfter y z ≡ true → notAfter x z ≡ true
+not-after-trans x y z h k =
     le-leb (totalKey x) (totalKey z) (le-trans (leb-true (totalKey x) (totalKey y) h) (leb-true (totalKey y) (totalKey z) k))
 
-pub before-total : (x y : Float) → (notAfter x y ≡ true) ⊎ (notAfter y x ≡ true)
-before-total x y = go (notAfter x y) refl
+pub not-after-total : (x y : Float) → (notAfter x y ≡ true) ⊎ (notAfter y x ≡ true)
+not-after-total x y = go (notAfter x y) refl
   where
     go : (t : Bool) → notAfter x y ≡ t → (notAfter x y ≡ true) ⊎ (notAfter y x ≡ true)
     go true e = inl e
     go false e = inr (le-leb (totalKey y) (totalKey x) (le-of-lt (leb-false (totalKey x) (totalKey y) e)))
 
-pub before-antisym : (x y : Float) → T (fits binary32 x) → T (fits binary32 y) → notAfter x y ≡ true → notAfter y x ≡ true → x ≡ y
-before-antisym x y p q h k =
+pub not-after-antisym : (x y : Float) → T (fits binary32 x) → T (fits binary32 y) → notAfter x y ≡ true → notAfter y x ≡ true → x ≡ y
+not-after-antisym x y p q h k =
     sym (value-back x p) ∙ ap valueOf (le-antisymm (leb-true (totalKey x) (totalKey y) h) (leb-true (totalKey y) (totalKey x) k)) ∙ value-back y q
 
 -- ---- the places of numbers
@@ -101,23 +101,23 @@ between true m e h = (omega (arith, key-neg m e, pattern-lt binary32 true m e h)
 between false m e h = (omega (arith, key-pos m e h), omega (arith, key-pos m e h, pattern-lt binary32 false m e h))
 
 -- ---- by the numbers
-pub lt-before : (x y : Float) → T (fits binary32 x) → T (fits binary32 y) → lt x y ≡ true → totalKey x < totalKey y
+pub lt-not-after : (x y : Float) → T (fits binary32 x) → T (fits binary32 y) → lt x y ≡ true → totalKey x < totalKey y
 unfolding lt toBits
-lt-before nan y h k l = absurd (false≢true l)
-lt-before (inf s) nan h k l = absurd (false≢true l)
-lt-before (inf true) (inf true) h k l = absurd (false≢true l)
-lt-before (inf true) (inf false) h k l = lit< tt
-lt-before (inf false) (inf t) h k l = absurd (false≢true l)
-lt-before (inf true) (fin t n d) h k l = between t n d k .0
-lt-before (inf false) (fin t n d) h k l = absurd (false≢true l)
-lt-before (fin s m e) nan h k l = absurd (false≢true l)
-lt-before (fin s m e) (inf true) h k l = absurd (false≢true l)
-lt-before (fin s m e) (inf false) h k l = between s m e h .1
-lt-before (fin false m e) (fin false n d) h k l =
+lt-not-after nan y h k l = absurd (false≢true l)
+lt-not-after (inf s) nan h k l = absurd (false≢true l)
+lt-not-after (inf true) (inf true) h k l = absurd (false≢true l)
+lt-not-after (inf true) (inf false) h k l = lit< tt
+lt-not-after (inf false) (inf t) h k l = absurd (false≢true l)
+lt-not-after (inf true) (fin t n d) h k l = between t n d k .0
+lt-not-after (inf false) (fin t n d) h k l = absurd (false≢true l)
+lt-not-after (fin s m e) nan h k l = absurd (false≢true l)
+lt-not-after (fin s m e) (inf true) h k l = absurd (false≢true l)
+lt-not-after (fin s m e) (inf false) h k l = between s m e h .1
+lt-not-after (fin false m e) (fin false n d) h k l =
     omega (arith, key-pos m e h, key-pos n d k, rise binary32 false m e n d h k (ltb-true (m * up e * down d) (n * up d * down e) l))
-lt-before (fin false m e) (fin true n d) h k l = absurd (false≢true l)
-lt-before (fin true m e) (fin false n d) h k l = omega (arith, key-neg m e, key-pos n d k)
-lt-before (fin true m e) (fin true n d) h k l =
+lt-not-after (fin false m e) (fin true n d) h k l = absurd (false≢true l)
+lt-not-after (fin true m e) (fin false n d) h k l = omega (arith, key-neg m e, key-pos n d k)
+lt-not-after (fin true m e) (fin true n d) h k l =
     omega (arith, key-neg m e, key-neg n d, pattern-lt binary32 true m e h, rise binary32 true n d m e k h (ltb-true (n * up d * down e) (m * up e * down d) l))
 
 pub zeros-apart : totalKey (fin true 0 (pos 0)) < totalKey (fin false 0 (pos 0))
@@ -126,7 +126,7 @@ zeros-apart = lit< tt
 
 pub nan-last : (x : Float) → T (fits binary32 x) → notAfter x nan ≡ true
 unfolding toBits
-nan-last nan h = before-refl nan
+nan-last nan h = not-after-refl nan
 nan-last (inf true) h = refl
 nan-last (inf false) h = refl
 nan-last (fin s m e) h = le-leb (totalKey (fin s m e)) 4290772992 (le-trans (le-of-lt (between s m e h .1)) (lit≤ tt))

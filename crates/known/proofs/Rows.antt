@@ -28,8 +28,7 @@ use Rattle.extra.specs.Unpitched.{unpitched, unpitchedPeaks}
 use Rattle.extra.specs.Split.{change, maySplit, splitOf}
 use Rattle.extra.specs.Merging.{oneSyllable, survivor, anchors}
 use Rattle.extra.specs.Seconds.{heldBy, secondIn, seconds}
-use Rattle.extra.specs.Extra.{edgesBetween, sides, extraFrames, extraEdges, extrasOf, edgesOf}
-use Rattle.extra.specs.Extra.{candidates as extraCandidates}
+use Rattle.extra.specs.Extra.{edgesBetween, extrasFrom, edgesFrom, extraFrames, extraEdges, extrasOf, edgesOf}
 use Rattle.boundaries.specs.Keeping.{clear, tryAdd, addAll}
 use Rattle.boundaries.specs.Joints.{joint, joints, jointsInside}
 use Rattle.boundaries.specs.Edges.{between, pauseEdges, creaks, inCreak, voicingEdges}
@@ -49,5 +48,14 @@ use Rattle.lists.specs.By.{Each}
 use Rattle.known.specs.Table.{Right, known}
 
 pub known-right : Each Right known
-unfolding known chainOf overlay regionRefusal ifAdmitted spanned eq printed textOf flatMap readingOf pitchesOf filter keep means levels isExtremum localExtrema someFrame allFrames firstFrame lastFrame firstBest extremumMiddle furthest shallow defaults tenthOf regionIn attach grouped voicedFrames voicedRuns longRuns awayBy runOf separate breaksFrom syllablesOf syllableRuns gaps dropoutsOf dropouts breaksIn member inOrder voicedIn neighbours beside repairedAmong repaired tabulate estimates recoveredFrom recoveredBy octaveIn pushBy mergeBy merged pitchNear speechByLevel voicedPeak ontoRun peaksOnto voicedPeaks runsHeld unheldFrom unheld hasTop standsAlone topOf onFlank topsOf candidates oneNucleus louder nucleusFrames nucleiOver nucleiOf unpitched unpitchedPeaks change maySplit splitOf oneSyllable survivor anchors heldBy secondIn seconds edgesBetween sides extraFrames extraEdges extrasOf edgesOf extraCandidates clear tryAdd addAll joint joints jointsInside between pauseEdges creaks inCreak voicingEdges inLongSpan minima chosen boundariesIn dbAdmitted pitchAdmitted allOf firstOf passes firstFailed tested refusal chainRefusal halfAt wordAt agrees refusalBy records takeIn readTake glyph hexDigits decimalIn markLines pitchLines regionLine listing stepIn cross power nsdf window narrow add sub mul div round ofInt toUnsigned toBits ofBits lt le ne
+unfolding known chainOf overlay regionRefusal ifAdmitted spanned eq printed textOf flatMap readingOf pitchesOf filter keep means levels isExtremum
+    localExtrema someFrame allFrames firstFrame lastFrame firstBest extremumMiddle furthest shallow defaults tenthOf regionIn attach grouped
+    voicedFrames voicedRuns longRuns awayBy runOf separate breaksFrom syllablesOf syllableRuns gaps dropoutsOf dropouts breaksIn member inOrder
+    voicedIn neighbours beside repairedAmong repaired tabulate estimates recoveredFrom recoveredBy octaveIn pushBy mergeBy merged pitchNear
+    speechByLevel voicedPeak ontoRun peaksOnto voicedPeaks runsHeld unheldFrom unheld hasTop standsAlone topOf onFlank topsOf candidates oneNucleus
+    louder nucleusFrames nucleiOver nucleiOf unpitched unpitchedPeaks change maySplit splitOf oneSyllable survivor anchors heldBy secondIn seconds
+    edgesBetween extrasFrom edgesFrom extraFrames extraEdges extrasOf edgesOf clear tryAdd addAll joint joints jointsInside between pauseEdges creaks
+    inCreak voicingEdges inLongSpan minima chosen boundariesIn dbAdmitted pitchAdmitted allOf firstOf passes firstFailed tested refusal chainRefusal
+    halfAt wordAt agrees refusalBy records takeIn readTake glyph hexDigits decimalIn markLines pitchLines regionLine listing stepIn cross power nsdf
+    window narrow add sub mul div round ofInt toUnsigned toBits ofBits lt le ne
 known-right = (refl, (refl, (refl, (refl, (refl, (refl, (refl, (refl, (refl, (refl, ((refl, refl), (refl, (refl, (refl, (refl, (refl, (refl, (refl, (refl, (refl, (refl, (refl, (refl, (refl, tt))))))))))))))))))))))))

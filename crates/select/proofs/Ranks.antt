@@ -17,28 +17,28 @@ use Rattle.lists.specs.Sorted.{Low, Rises, insert, sorted}
 use Rattle.lists.proofs.Entries.{each-map, each-at, each-kept}
 use Rattle.lists.proofs.Ordered.{each-sort, count-sort, length-sort}
 use Rattle.lists.proofs.Sorting.{rises-sorted}
-use Rattle.select.specs.Order.{atMost, lowest, highest, lowestAbove}
+use Rattle.select.specs.Order.{atMost, leastOf, greatestOf, leastAbove}
 
 -- m is at least each entry
 abbrev pub High : ℕ → List ℕ → Type 0
 High m = Each (λ y. y ≤ m)
 
 -- ---- bounds
-pub lowest-low : (l : List ℕ) → Low (lowest l) l
-lowest-low [] = tt
-lowest-low (y ∷ l) = (omega arith, each-map (λ z. lowest l ≤ z) (λ z. min y (lowest l) ≤ z) (λ z h. omega arith) l (lowest-low l))
+pub least-low : (l : List ℕ) → Low (leastOf l) l
+least-low [] = tt
+least-low (y ∷ l) = (omega arith, each-map (λ z. leastOf l ≤ z) (λ z. min y (leastOf l) ≤ z) (λ z h. omega arith) l (least-low l))
 
-pub highest-high : (l : List ℕ) → High (highest l) l
-highest-high [] = tt
-highest-high (y ∷ l) = (omega arith, each-map (λ z. z ≤ highest l) (λ z. z ≤ max y (highest l)) (λ z h. omega arith) l (highest-high l))
+pub greatest-high : (l : List ℕ) → High (greatestOf l) l
+greatest-high [] = tt
+greatest-high (y ∷ l) = (omega arith, each-map (λ z. z ≤ greatestOf l) (λ z. z ≤ max y (greatestOf l)) (λ z h. omega arith) l (greatest-high l))
 
-pub lowest-small : (l : List ℕ) → lowest l ≤ 4294967295
-lowest-small [] = le-refl 4294967295
-lowest-small (y ∷ l) = omega (arith, lowest-small l)
+pub least-small : (l : List ℕ) → leastOf l ≤ 4294967295
+least-small [] = le-refl 4294967295
+least-small (y ∷ l) = omega (arith, least-small l)
 
-low-lowest : (y : ℕ) (l : List ℕ) → y ≤ 4294967295 → Low y l → y ≤ lowest l
-low-lowest y [] h k = h
-low-lowest y (z ∷ l) h k = omega (arith, k .0, low-lowest y l h (k .1))
+low-least : (y : ℕ) (l : List ℕ) → y ≤ 4294967295 → Low y l → y ≤ leastOf l
+low-least y [] h k = h
+low-least y (z ∷ l) h k = omega (arith, k .0, low-least y l h (k .1))
 
 -- ---- counts in a list that rises
 count-up : (x y : ℕ) (l : List ℕ) → y ≤ x → atMost x (y ∷ l) ≡ suc (atMost x l)
@@ -77,46 +77,46 @@ reached l k r h = go (le-or-lt (atMost (getD l k 0) l) k)
     go (inr p) = p
 
 -- ---- the smallest entry above x
-above-yes : (x y : ℕ) (l : List ℕ) → x < y → lowestAbove x (y ∷ l) ≡ min y (lowestAbove x l)
+above-yes : (x y : ℕ) (l : List ℕ) → x < y → leastAbove x (y ∷ l) ≡ min y (leastAbove x l)
 unfolding filter
 above-yes x y l h = rw (lt-ltb x y h)
 
-above-no : (x y : ℕ) (l : List ℕ) → y ≤ x → lowestAbove x (y ∷ l) ≡ lowestAbove x l
+above-no : (x y : ℕ) (l : List ℕ) → y ≤ x → leastAbove x (y ∷ l) ≡ leastAbove x l
 unfolding filter
 above-no x y l h = rw (le-ltb x y h)
 
-above-insert : (x y : ℕ) (l : List ℕ) → lowestAbove x (insert y l) ≡ lowestAbove x (y ∷ l)
+above-insert : (x y : ℕ) (l : List ℕ) → leastAbove x (insert y l) ≡ leastAbove x (y ∷ l)
 unfolding filter
 above-insert x y [] = refl
 above-insert x y (z ∷ l) = go (leb y z) (above-insert x y l)
   where
-    swap : (a b : Bool) (m : List ℕ) → lowest (consIf a z (consIf b y m)) ≡ lowest (consIf b y (consIf a z m))
+    swap : (a b : Bool) (m : List ℕ) → leastOf (consIf a z (consIf b y m)) ≡ leastOf (consIf b y (consIf a z m))
     swap true true m = omega arith
     swap true false m = refl
     swap false true m = refl
     swap false false m = refl
 
-    first : (a : Bool) (m n : List ℕ) → lowest m ≡ lowest n → lowest (consIf a z m) ≡ lowest (consIf a z n)
+    first : (a : Bool) (m n : List ℕ) → leastOf m ≡ leastOf n → leastOf (consIf a z m) ≡ leastOf (consIf a z n)
     first true m n e = ap (min z) e
     first false m n e = e
 
-    go : (b : Bool) → lowestAbove x (insert y l) ≡ lowestAbove x (y ∷ l) → lowestAbove x (cond b (y ∷ z ∷ l) (z ∷ insert y l)) ≡ lowestAbove x (y ∷ z ∷ l)
+    go : (b : Bool) → leastAbove x (insert y l) ≡ leastAbove x (y ∷ l) → leastAbove x (cond b (y ∷ z ∷ l) (z ∷ insert y l)) ≡ leastAbove x (y ∷ z ∷ l)
     go true e = refl
     go false e = first (ltb x z) (filter (ltb x) (insert y l)) (filter (ltb x) (y ∷ l)) e ∙ swap (ltb x z) (ltb x y) (filter (ltb x) l)
 
-above-sorted : (x : ℕ) (l : List ℕ) → lowestAbove x (sorted l) ≡ lowestAbove x l
+above-sorted : (x : ℕ) (l : List ℕ) → leastAbove x (sorted l) ≡ leastAbove x l
 above-sorted x [] = refl
 above-sorted x (y ∷ l) = above-insert x y (sorted l) ∙ go (le-or-lt y x) (above-sorted x l)
   where
-    go : (y ≤ x) ⊎ (x < y) → lowestAbove x (sorted l) ≡ lowestAbove x l → lowestAbove x (y ∷ sorted l) ≡ lowestAbove x (y ∷ l)
+    go : (y ≤ x) ⊎ (x < y) → leastAbove x (sorted l) ≡ leastAbove x l → leastAbove x (y ∷ sorted l) ≡ leastAbove x (y ∷ l)
     go (inl p) e = above-no x y (sorted l) p ∙ e ∙ sym (above-no x y l p)
     go (inr p) e = above-yes x y (sorted l) p ∙ ap (min y) e ∙ sym (above-yes x y l p)
 
-above-at : (x : ℕ) (l : List ℕ) → Rises l → High 4294967295 l → atMost x l < length l → lowestAbove x l ≡ getD l (atMost x l) 0
+above-at : (x : ℕ) (l : List ℕ) → Rises l → High 4294967295 l → atMost x l < length l → leastAbove x l ≡ getD l (atMost x l) 0
 above-at x [] r m h = absurd (not-suc-le-zero h)
 above-at x (y ∷ l) r m h = go (le-or-lt y x) (above-at x l (r .1) (m .1))
   where
-    go : (y ≤ x) ⊎ (x < y) → (atMost x l < length l → lowestAbove x l ≡ getD l (atMost x l) 0) → lowestAbove x (y ∷ l) ≡ getD (y ∷ l) (atMost x (y ∷ l)) 0
+    go : (y ≤ x) ⊎ (x < y) → (atMost x l < length l → leastAbove x l ≡ getD l (atMost x l) 0) → leastAbove x (y ∷ l) ≡ getD (y ∷ l) (atMost x (y ∷ l)) 0
     go (inl p) later =
         let e = count-up x y l p in
         above-no x y l p
@@ -124,7 +124,7 @@ above-at x (y ∷ l) r m h = go (le-or-lt y x) (above-at x l (r .1) (m .1))
         ∙ ap (λ (n : ℕ). getD (y ∷ l) n 0) (sym e)
     go (inr p) later =
         above-yes x y l p
-        ∙ least (lowestAbove x l) (low-lowest y (filter (ltb x) l) (m .0) (each-kept (λ z. y ≤ z) (ltb x) l (r .0)))
+        ∙ least (leastAbove x l) (low-least y (filter (ltb x) l) (m .0) (each-kept (λ z. y ≤ z) (ltb x) l (r .0)))
         ∙ ap (λ (n : ℕ). getD (y ∷ l) n 0) (sym (count-down x y l p (r .0)))
       where
         least : (b : ℕ) → y ≤ b → min y b ≡ y
@@ -138,9 +138,9 @@ module _ (l : List ℕ) (k : ℕ) (h : k < length l) where
   placed : k < length (sorted l)
   placed = subst (λ (n : ℕ). k < n) (sym (length-sort leb l)) h
 
-  pub bounds : (lowest l ≤ getD (sorted l) k 0) × (getD (sorted l) k 0 ≤ highest l)
+  pub bounds : (leastOf l ≤ getD (sorted l) k 0) × (getD (sorted l) k 0 ≤ greatestOf l)
   bounds =
-      (each-at (λ z. lowest l ≤ z) (sorted l) 0 (each-sort leb (λ z. lowest l ≤ z) l (lowest-low l)) k placed, each-at (λ z. z ≤ highest l) (sorted l) 0 (each-sort leb (λ z. z ≤ highest l) l (highest-high l)) k placed)
+      (each-at (λ z. leastOf l ≤ z) (sorted l) 0 (each-sort leb (λ z. leastOf l ≤ z) l (least-low l)) k placed, each-at (λ z. z ≤ greatestOf l) (sorted l) 0 (each-sort leb (λ z. z ≤ greatestOf l) l (greatest-high l)) k placed)
 
   pub not-above : (x : ℕ) → k < atMost x l → getD (sorted l) k 0 ≤ x
   not-above x p = within x (sorted l) k (rises-sorted l) placed (subst (λ (n : ℕ). k < n) (sym (atMost-sorted x l)) p)
@@ -161,7 +161,7 @@ module _ (l : List ℕ) (k x : ℕ) (h : k + 1 < length l) (e : x ≡ getD (sort
       let b : getD (sorted l) k 0 ≤ v = not-above l k (omega arith) v (omega arith) in
       omega arith
 
-  pub next-over : High 4294967295 l → atMost x l ≤ k + 1 → lowestAbove x l ≡ getD (sorted l) (k + 1) 0
+  pub next-over : High 4294967295 l → atMost x l ≤ k + 1 → leastAbove x l ≡ getD (sorted l) (k + 1) 0
   next-over m p =
       let q : k < atMost x l = subst (λ (z : ℕ). k < atMost z l) (sym e) (counted l k (omega arith)) in
       let n : atMost x (sorted l) ≡ k + 1 = atMost-sorted x l ∙ omega arith in

@@ -10,15 +10,15 @@ abbrev pub atMost : ℕ → List ℕ → ℕ
 atMost x = countIf (λ y. leb y x)
 
 -- the smallest entry of a list of 32-bit numbers, 2 ^ 32 - 1 where there is none
-abbrev pub lowest : List ℕ → ℕ
-lowest [] = 4294967295
-lowest (y ∷ ys) = min y (lowest ys)
+abbrev pub leastOf : List ℕ → ℕ
+leastOf [] = 4294967295
+leastOf (y ∷ ys) = min y (leastOf ys)
 
 -- the largest entry, 0 where there is none
-abbrev pub highest : List ℕ → ℕ
-highest [] = 0
-highest (y ∷ ys) = max y (highest ys)
+abbrev pub greatestOf : List ℕ → ℕ
+greatestOf [] = 0
+greatestOf (y ∷ ys) = max y (greatestOf ys)
 
 -- the smallest of the entries above x
-abbrev pub lowestAbove : ℕ → List ℕ → ℕ
-lowestAbove x l = lowest (filter (ltb x) l)
+abbrev pub leastAbove : ℕ → List ℕ → ℕ
+leastAbove x l = leastOf (filter (ltb x) l)

@@ -8,7 +8,7 @@ ghost use lib.Dec.{leb, ltb};
 ghost use lib.ListN.{length, getD};
 ghost use Rattle.lists.specs.Results.{moreIf};
 ghost use Rattle.lists.specs.Sorted.{sorted};
-ghost use Rattle.select.specs.Order.{atMost, lowest, highest, lowestAbove};
+ghost use Rattle.select.specs.Order.{atMost, leastOf, greatestOf, leastAbove};
 
 // 1 where k is at most x, else 0.
 fn one(k: u32, x: u32) -> u32
@@ -33,7 +33,7 @@ fn count(keys: &[u32], x: u32) -> u32
 
 // The smallest key; the largest u32 where there is no key.
 fn least(keys: &[u32]) -> u32
-    ensures { λ r. ⌜ r ≡ lowest (now (keys .entry)) ⌝ }
+    ensures { λ r. ⌜ r ≡ leastOf (now (keys .entry)) ⌝ }
 {
     let mut b = 0xffff_ffffu32;
     let mut i = 0;
@@ -46,7 +46,7 @@ fn least(keys: &[u32]) -> u32
 
 // The largest key; 0 where there is no key.
 fn greatest(keys: &[u32]) -> u32
-    ensures { λ r. ⌜ r ≡ highest (now (keys .entry)) ⌝ }
+    ensures { λ r. ⌜ r ≡ greatestOf (now (keys .entry)) ⌝ }
 {
     let mut b = 0u32;
     let mut i = 0;
@@ -66,7 +66,7 @@ fn over(k: u32, x: u32) -> u32
 
 // The smallest of the keys above x; the largest u32 where no key is above x.
 fn least_over(keys: &[u32], x: u32) -> u32
-    ensures { λ r. ⌜ r ≡ lowestAbove x (now (keys .entry)) ⌝ }
+    ensures { λ r. ⌜ r ≡ leastAbove x (now (keys .entry)) ⌝ }
 {
     let mut b = 0xffff_ffffu32;
     let mut i = 0;

@@ -16,10 +16,11 @@ returns c = stop _ _ _ (not-true _ (c .if1 .taken))
 returns-2 : tie.Need-returns-2
 unfolding chainRefusal refusal tested passedInTurn
 returns-2 c =
+    let at-settings-admitted = c .before .before .before .before .before .before in
     numbered _ _ (c .number-of .ensures)
-    (next (sym (not-false _ (c .before .before .before .before .before .before .before .if1 .left)))
+    (next (sym (not-false _ (at-settings-admitted .before .if1 .left)))
     (next refl
-    (next (c .before .before .before .before .before .before .settings-admitted .ensures)
+    (next (at-settings-admitted .settings-admitted .ensures)
     (next (c .before .before .before .before .before .all-db .ensures)
     (next (ap₂ _&&_ (rw (n40, n2000) at (c .before .before .before .before .all-pitches .ensures)) (rw (n0, n1) at (c .before .before .before .all-within .ensures)))
     (next (ap₂ _&&_ (rw (n0, n1) at (c .before .before .all-within2 .ensures)) (c .before .all-marks .ensures))

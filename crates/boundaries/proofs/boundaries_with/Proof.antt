@@ -22,13 +22,30 @@ slice-aggregate-boundaries-over : tie.Need-slice-aggregate-boundaries-over
 slice-aggregate-boundaries-over c = listed-count (level-listed (c .before .before .before .before .before .before .before .before .before .before .args .db .now) (c .before .before .before .smoothed-db .ensures))
 
 boundaries-over-requires : tie.Need-boundaries-over-requires
-boundaries-over-requires c κs = ((c .before .before .before .before .before .before .before .before .before .before .before .pre .0 .0, c .before .before .before .before .before .before .before .before .before .before .before .pre .0 .1, c .before .before .before .before .before .before .before .before .before .before .before .pre .0 .2, sym (listed-count (level-listed (c .before .before .before .before .before .before .before .before .before .before .before .args .db .now) (c .before .before .before .before .smoothed-db .ensures))), c .before .before .before .before .before .before .before .before .before .before .before .pre .0 .3, c .before .before .before .before .before .before .before .before .before .before .before .pre .0 .4), (c .before .before .before .before .before .before .before .before .before .before .before .pre .1 .0, c .before .before .before .before .before .before .before .before .before .before .before .pre .1 .1))
+boundaries-over-requires c κs =
+    let start = c .before .before .before .before .before .before .before .before .before .before .before in (
+      (
+        start .pre .0 .0,
+        start .pre .0 .1,
+        start .pre .0 .2,
+        sym (listed-count (level-listed (start .args .db .now) (c .before .before .before .before .smoothed-db .ensures))),
+        start .pre .0 .3,
+        start .pre .0 .4,
+      ),
+      (start .pre .1 .0, start .pre .1 .1),
+    )
 
 same-length : tie.Need-same-length
 same-length c = search needs
 
 returns : tie.Need-returns
-returns c = rw (listed-take (level-listed (c .before .before .before .before .before .before .before .before .before .before .before .before .before .before .args .db .now) (c .before .before .before .before .before .before .before .smoothed-db .ensures)), c .before .before .before .before .before .speech-threshold .ensures) at (c .before .before .boundaries-over .ensures)
+returns c =
+    let at-smoothed-db = c .before .before .before .before .before .before .before in
+    rw (
+      listed-take
+          (level-listed (at-smoothed-db .before .before .before .before .before .before .before .args .db .now) (at-smoothed-db .smoothed-db .ensures)),
+      c .before .before .before .before .before .speech-threshold .ensures,
+    ) at (c .before .before .boundaries-over .ensures)
 
 pub boundaries-with-spec : {M : Type 1} → statement M
 boundaries-with-spec =

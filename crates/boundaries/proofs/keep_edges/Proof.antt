@@ -7,19 +7,32 @@ use Rattle.boundaries.proofs.keep_edges.Statement.{statement}
 use Rattle.boundaries.proofs.keep_edges.Tie as tie
 
 put-ends-requires : tie.Need-put-ends-requires
-put-ends-requires c κs = (omega (arith, c .before .before .before .before .before .before .pre .0), omega (arith, c .before .before .before .before .before .before .pre .0))
+put-ends-requires c κs =
+    let start = c .before .before .before .before .before .before in
+    (omega (arith, start .pre .0), omega (arith, start .pre .0))
 
 add-joints-requires : tie.Need-add-joints-requires
-add-joints-requires c κs = (omega (arith, c .before .before .before .before .before .before .before .before .pre .0), omega (arith, c .before .before .before .before .before .before .before .before .pre .0), rw (c .before .before .before .before .before .before .before .before .pre .0 .3) (c .before .before .before .before .before .before .before .before .pre .1), c .before .before .before .before .before .before .before .before .pre .0 .3 ∙ sym (c .before .before .before .before .before .before .before .before .pre .0 .4))
+add-joints-requires c κs =
+    let start = c .before .before .before .before .before .before .before .before in
+    (omega (arith, start .pre .0), omega (arith, start .pre .0), rw (start .pre .0 .3) (start .pre .1), start .pre .0 .3 ∙ sym (start .pre .0 .4))
 
 add-pauses-requires : tie.Need-add-pauses-requires
-add-pauses-requires c κs = (c .before .before .before .before .before .before .before .before .before .before .pre .0 .0, omega (arith, c .before .before .before .before .before .before .before .before .before .before .pre .0), omega (arith, c .before .before .before .before .before .before .before .before .before .before .pre .0))
+add-pauses-requires c κs =
+    let start = c .before .before .before .before .before .before .before .before .before .before in
+    (start .pre .0 .0, omega (arith, start .pre .0), omega (arith, start .pre .0))
 
 add-voicings-requires : tie.Need-add-voicings-requires
-add-voicings-requires c κs = (c .before .before .before .before .before .before .before .before .before .before .before .before .pre .0 .0, omega (arith, c .before .before .before .before .before .before .before .before .before .before .before .before .pre .0), omega (arith, c .before .before .before .before .before .before .before .before .before .before .before .before .pre .0), omega (arith, c .before .before .before .before .before .before .before .before .before .before .before .before .pre .0))
+add-voicings-requires c κs =
+    let start = c .before .before .before .before .before .before .before .before .before .before .before .before in
+    (start .pre .0 .0, omega (arith, start .pre .0), omega (arith, start .pre .0), omega (arith, start .pre .0))
 
 returns : tie.Need-returns
-returns c = λ t. add-then (c .before .before .before .before .add-joints .ensures) (add-then (c .before .before .add-pauses .ensures) (c .add-voicings .ensures)) .adds (ends (c .before .before .before .before .before .before .before .before .before .before .before .before .before .args .b .start) (c .before .before .before .before .before .before .before .before .before .before .before .before .before .args .b .end)) (c .before .before .before .before .before .before .put-ends .ensures t)
+returns c =
+    let at-put-ends = c .before .before .before .before .before .before in
+    let start = at-put-ends .before .before .before .before .before .before .before in
+    λ t. add-then (c .before .before .before .before .add-joints .ensures)
+    (add-then (c .before .before .add-pauses .ensures) (c .add-voicings .ensures)) .adds (ends (start .args .b .start) (start .args .b .end))
+    (at-put-ends .put-ends .ensures t)
 
 pub keep-edges-spec : {M : Type 1} → statement M
 keep-edges-spec =

@@ -30,9 +30,10 @@ same-length c = search needs
 
 returns : tie.Need-returns
 returns c =
-    let s = c .before .before .before .before .before .before .before .before .before .before .before .before .before .before .before in
-    let q = marks-lent (s .args .db .now) (s .args .p) _ (c .before .before .before .before .before .before .speech-frames .ensures) in
-    rw (c .before .before .before .before .before .before .before .before .before .before .repair-octaves .ensures, q) at (c .before .before .recover-pitch .ensures)
+    let at-speech-frames = c .before .before .before .before .before .before in
+    let s = at-speech-frames .before .before .before .before .before .before .before .before .before in
+    let q = marks-lent (s .args .db .now) (s .args .p) _ (at-speech-frames .speech-frames .ensures) in
+    rw (at-speech-frames .before .before .before .before .repair-octaves .ensures, q) at (c .before .before .recover-pitch .ensures)
 
 pub mark-pitches-spec : {M : Type 1} → statement M
 mark-pitches-spec =

@@ -27,8 +27,9 @@ slice-aggregate-boundaries-with c = listed-count (c .before .before .before .bef
 
 boundaries-with-requires : tie.Need-boundaries-with-requires
 boundaries-with-requires c κs =
-    let f = c .before .before .before .before .before .before .before .before .before .before .before .before .before .before .before .before .before .nuclei .ensures .0 in
-    let s = c .before .before .before .before .before .before .before .before .before .before .before .before .before .before .before .before .before .before .before .before .before .before .before .before .before .before .before .before .before .before in (
+    let at-nuclei = c .before .before .before .before .before .before .before .before .before .before .before .before .before .before .before .before .before in
+    let f = at-nuclei .nuclei .ensures .0 in
+    let s = at-nuclei .before .before .before .before .before .before .before .before .before .before .before .before .before in (
       (s .pre .0 .3, s .pre .0 .4, s .pre .0 .0, s .pre .0 .1, s .pre .0 .2),
       (
         lent-rises (s .args .db .now) (s .args .pitch .now) (s .args .voiced .now) (s .args .sonority .now) (s .args .p) (s .args .start) (s .args .end) (s .pre .0 .4) f,
@@ -56,9 +57,11 @@ same-length-6 c = search needs
 
 returns : tie.Need-returns
 returns c =
-    let n = c .before .before .before .before .before .before .before .before .before .before .before .before .before .before .before .before .before .before .before .before .nuclei .ensures in
-    let x = c .before .before .before .before .before .before .before .before .before .before .before .extra-candidates .ensures in
-    let s = c .before .before .before .before .before .before .before .before .before .before .before .before .before .before .before .before .before .before .before .before .before .before .before .before .before .before .before .before .before .before .before .before .before in
+    let at-extra-candidates = c .before .before .before .before .before .before .before .before .before .before .before in
+    let at-nuclei = at-extra-candidates .before .before .before .before .before .before .before .before .before in
+    let n = at-nuclei .nuclei .ensures in
+    let x = at-extra-candidates .extra-candidates .ensures in
+    let s = at-nuclei .before .before .before .before .before .before .before .before .before .before .before .before .before in
     told (s .args .db .now) (s .args .pitch .now) (s .args .voiced .now) (s .args .sonority .now) (s .args .p) (s .args .start) (s .args .end) (n .0) (n .1) (x .0) (x .1) (x .2) (c .before .before .boundaries-with .ensures)
 
 pub mark-region-spec : {M : Type 1} → statement M

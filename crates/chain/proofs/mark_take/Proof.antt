@@ -22,8 +22,9 @@ enum-known-start c = search needs
 
 mark-region-requires : tie.Need-mark-region-requires
 mark-region-requires c κs =
-    let s = c .before .before .before .before .before .before .before .before .before .before .before .before .before .before .before .before .before .before .before .before in
-    let e = sym (c .before .before .before .before .before .before .before .before .before .speech-region .ensures) ∙ c .before .before .before .before .before .before .before .start .given .1 in
+    let at-start = c .before .before .before .before .before .before .before in
+    let s = at-start .before .before .before .before .before .before .before .before .before .before .before .before .before in
+    let e = sym (at-start .before .before .speech-region .ensures) ∙ at-start .start .given .1 in
     let t = thresholdOf (s .args .db .now) (s .args .p) in
     let w = region-size t (s .args .db .now) _ _ e in
     ((s .pre .0 .0, s .pre .0 .1, s .pre .0 .2, omega (arith, w), region-within t (s .args .db .now) _ _ e), s .pre .1)
@@ -54,8 +55,10 @@ same-length-6 c = search needs
 
 returns-2 : tie.Need-returns-2
 returns-2 c =
-    let e = sym (c .before .before .before .before .before .before .before .before .before .before .before .before .before .before .before .before .before .before .before .before .before .before .speech-region .ensures) ∙ c .before .before .before .before .before .before .before .before .before .before .before .before .before .before .before .before .before .before .before .before .start .given .1 in
-    rw e (c .before .before .before .before .before .before .before .before .before .before .before .before .mark-region .ensures)
+    let at-mark-region = c .before .before .before .before .before .before .before .before .before .before .before .before in
+    let at-start = at-mark-region .before .before .before .before .before .before .before .before in
+    let e = sym (at-start .before .before .speech-region .ensures) ∙ at-start .start .given .1 in
+    rw e (at-mark-region .mark-region .ensures)
 
 pub mark-take-spec : {M : Type 1} → statement M
 mark-take-spec =

@@ -36,9 +36,10 @@ shared-slice-read-a c = search needs
 
 below : (c : tie.In-loop Inv-loop μ-loop) → (getD (c .before .before .before .before .before .args .kept .now) (c .before .loop .i) 0 < getD (c .before .before .before .before .before .args .kept .now) (c .before .loop .i + 1) 0) × (getD (c .before .before .before .before .before .args .kept .now) (c .before .loop .i) 0 < length (c .before .before .before .before .before .args .s .now)) × (getD (c .before .before .before .before .before .args .kept .now) (c .before .loop .i + 1) 0 < length (c .before .before .before .before .before .args .s .now))
 below c =
-    let n = length (c .before .before .before .before .before .args .s .now) in
-    let e = each-at (λ x. (0 ≤ x) × (x < n)) (c .before .before .before .before .before .args .kept .now) 0 (strict-each 0 n (c .before .before .before .before .before .args .kept .now) (c .before .before .before .before .before .pre .1)) in
-    (strict-at 0 n (c .before .before .before .before .before .args .kept .now) (c .before .before .before .before .before .pre .1) (c .before .loop .i) (c .loop-test .taken), e (c .before .loop .i) (omega arith) .1, e (c .before .loop .i + 1) (c .loop-test .taken) .1)
+    let start = c .before .before .before .before .before in
+    let n = length (start .args .s .now) in
+    let e = each-at (λ x. (0 ≤ x) × (x < n)) (start .args .kept .now) 0 (strict-each 0 n (start .args .kept .now) (start .pre .1)) in
+    (strict-at 0 n (start .args .kept .now) (start .pre .1) (c .before .loop .i) (c .loop-test .taken), e (c .before .loop .i) (omega arith) .1, e (c .before .loop .i + 1) (c .loop-test .taken) .1)
 
 cast-a : tie.Need-cast-a Inv-loop μ-loop
 cast-a c = omega (arith, below (c .before) .1)
@@ -65,18 +66,24 @@ either-requires : tie.Need-either-requires Inv-loop μ-loop
 either-requires c κs = search needs
 
 argmin-middle-requires : tie.Need-argmin-middle-requires Inv-loop μ-loop
-argmin-middle-requires c κs = (omega (arith, below (c .before .before .before .before .before .before) .0), below (c .before .before .before .before .before .before) .2)
+argmin-middle-requires c κs =
+    let at-6 = c .before .before .before .before .before .before in
+    (omega (arith, below (at-6) .0), below (at-6) .2)
 
 cast-out : tie.Need-cast-out Inv-loop μ-loop
 cast-out c =
-    let i = c .before .before .before .before .before .before .before in
-    let s = c .before .before .before .before .before .before .before .before .before .before .before .before .args .s .now in
-    let kept = c .before .before .before .before .before .before .before .before .before .before .before .before .args .kept .now in
-    let k = c .before .before .before .before .before .before .before .before .loop .i in
+    let at-7 = c .before .before .before .before .before .before .before in
+    let start = at-7 .before .before .before .before .before in
+    let i = at-7 in
+    let s = start .args .s .now in
+    let kept = start .args .kept .now in
+    let k = at-7 .before .loop .i in
     omega (arith, c .argmin-middle .ensures, middle-within Min s (getD kept k 0) (getD kept (k + 1) 0) (omega (arith, below i .0)) (below i .2) .1, below i .2)
 
 room : (c : tie.Then1 Inv-loop μ-loop) → c .before .before .before .before .before .before .before .loop .n < length (c .before .before .before .before .before .before .before .loop .out)
-room c = fill-fitsIf _ _ _ (sym (c .before .either .ensures) ∙ c .if1 .taken) (rw (between-step _ _ _ _ (c .before .before .before .before .before .before .loop-test .taken)) at (c .before .before .before .before .before .before .before .loop .inv .1))
+room c =
+    let at-loop-test = c .before .before .before .before .before .before in
+    fill-fitsIf _ _ _ (sym (c .before .either .ensures) ∙ c .if1 .taken) (rw (between-step _ _ _ _ (at-loop-test .loop-test .taken)) at (at-loop-test .before .loop .inv .1))
 
 mul-out : tie.Need-mul-out Inv-loop μ-loop
 mul-out c = omega (arith, room (c .before), fill-length (c .before .before .before .before .before .before .before .before .loop .inv .1))
@@ -95,7 +102,8 @@ loop-less c = search needs
 
 loop-again : tie.Need-loop-again Inv-loop μ-loop
 loop-again c =
-    let f = rw (between-step _ _ _ _ (c .before .before .before .before .before .before .loop-test .taken)) at (c .before .before .before .before .before .before .before .loop .inv .1) in
+    let at-loop-test = c .before .before .before .before .before .before in
+    let f = rw (between-step _ _ _ _ (at-loop-test .loop-test .taken)) at (at-loop-test .before .loop .inv .1) in
     let e = sym (c .before .either .ensures) in (
       omega arith,
       ⊎-elim

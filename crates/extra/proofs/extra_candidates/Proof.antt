@@ -41,7 +41,8 @@ bounds-over-requires c κs = search needs
 
 extras-over-requires : tie.Need-extras-over-requires
 extras-over-requires c κs =
-    let e = length-take-le (length (c .before .before .before .before .before .before .before .before .before .before .before .before .before .before .before .before .before .before .before .before .args .db .now)) (c .before .before .before .before .before .before .smoothed-db .last .1 .0) (omega arith) in
+    let at-smoothed-db = c .before .before .before .before .before .before in
+    let e = length-take-le (length (at-smoothed-db .before .before .before .before .before .before .before .before .before .before .before .before .before .before .args .db .now)) (at-smoothed-db .smoothed-db .last .1 .0) (omega arith) in
     rw (c .before .before .before .bounds-over .ensures) (((omega arith, omega arith, omega arith), omega arith), (omega arith, omega arith, omega arith))
 
 same-length : tie.Need-same-length
@@ -55,8 +56,13 @@ same-length-3 c = search needs
 
 returns-3 : tie.Need-returns-3
 returns-3 c =
-    let l = level-take (c .before .before .before .before .before .before .before .before .before .before .before .before .before .before .before .before .before .before .before .before .before .before .before .before .before .before .before .args .db .now) _ (c .before .before .before .before .before .before .before .before .before .before .before .before .before .smoothed-db .ensures) in
-    extras-floored _ _ _ _ _ _ _ (c .before .before .before .before .before .before .before .before .before .before .before .before .before .before .before .before .before .before .before .if1 .left) (sym (c .before .before .before .before .before .before .before .before .before .before .before .before .before .before .before .before .before .before .floor-db .ensures) ∙ c .before .before .before .before .before .before .before .before .before .before .before .before .before .before .before .before .floor .given .1) (rw (l, c .before .before .before .before .before .before .before .before .before .before .bounds-over .ensures) at (c .before .before .before .before .before .before .extras-over .ensures))
+    let at-extras-over = c .before .before .before .before .before .before in
+    let at-smoothed-db = at-extras-over .before .before .before .before .before .before .before in
+    let at-if1 = at-smoothed-db .before .before .before .before .before .before in
+    let l = level-take (at-if1 .before .before .before .before .before .before .before .before .args .db .now) _ (at-smoothed-db .smoothed-db .ensures) in
+    extras-floored _ _ _ _ _ _ _ (at-if1 .if1 .left)
+    (sym (at-smoothed-db .before .before .before .before .before .floor-db .ensures) ∙ at-smoothed-db .before .before .before .floor .given .1)
+    (rw (l, at-extras-over .before .before .before .before .bounds-over .ensures) at (at-extras-over .extras-over .ensures))
 
 pub extra-candidates-spec : {M : Type 1} → statement M
 extra-candidates-spec =

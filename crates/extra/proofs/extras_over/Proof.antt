@@ -44,8 +44,9 @@ slice-aggregate-extras-from-2 c = sym (length-take-le _ _ (c .before .before .be
 
 extras-from-requires : tie.Need-extras-from-requires
 extras-from-requires c κs =
-    let a = c .before .before .before .before .before .before .before .before .before .before .before .before .before .before .before .before .before .before .before in
-    (a .pre .0 .0, ((listed-rises _ (c .before .before .before .before .before .before .before .before .before .before .unpitched-peaks .ensures) (peaks-rise _ _ _ _), front-rises _ (c .before .before .before .before .before .before .merged .ensures) (anchors-rise _ _ _ _)), (a .pre .1 .0, a .pre .1 .1, a .pre .1 .2)))
+    let at-merged = c .before .before .before .before .before .before in
+    let a = at-merged .before .before .before .before .before .before .before .before .before .before .before .before .before in
+    (a .pre .0 .0, ((listed-rises _ (at-merged .before .before .before .before .unpitched-peaks .ensures) (peaks-rise _ _ _ _), front-rises _ (at-merged .merged .ensures) (anchors-rise _ _ _ _)), (a .pre .1 .0, a .pre .1 .1, a .pre .1 .2)))
 
 same-length : tie.Need-same-length
 same-length c = search needs
@@ -58,7 +59,10 @@ same-length-3 c = search needs
 
 returns : tie.Need-returns
 unfolding extraFrames extraEdges
-returns c = rw (c .before .before .before .before .before .before .before .before .before .before .before .before .before .merged .ensures .entries, listed-take (c .before .before .before .before .before .before .before .before .before .before .before .before .before .before .before .before .before .unpitched-peaks .ensures)) at (c .before .before .before .before .before .before .extras-from .ensures)
+returns c =
+    let at-extras-from = c .before .before .before .before .before .before in
+    let at-merged = at-extras-from .before .before .before .before .before .before .before in
+    rw (at-merged .merged .ensures .entries, listed-take (at-merged .before .before .before .before .unpitched-peaks .ensures)) at (at-extras-from .extras-from .ensures)
 
 pub extras-over-spec : {M : Type 1} → statement M
 extras-over-spec =

@@ -8,7 +8,7 @@ use Rattle.lists.proofs.Fill.{filter-le}
 use Rattle.lists.proofs.Members.{strict-to, strict-below, strict-few}
 use Rattle.region.specs.Speech.{marked}
 use Rattle.extra.specs.Seconds.{frameOf}
-use Rattle.extra.specs.Extra.{candidates, sides}
+use Rattle.extra.specs.Extra.{extrasFrom, edgesFrom}
 use Rattle.extra.proofs.Anchoring.{marked-is}
 use Rattle.extra.proofs.Edging.{between-few}
 use Rattle.extra.proofs.Whole.{room-after, appended, seconds-count}
@@ -20,8 +20,10 @@ marks-requires c κs = search needs
 
 those-marked-requires : tie.Need-those-marked-requires
 those-marked-requires c κs =
-    let a = c .before .before .before .before .before .before .before .before .before .before in
-    (strict-to 0 (length (a .args .s .now)) 2048 (a .args .kept .now) (a .pre .0 .0) (a .pre .1 .0 .1), omega (arith, strict-few 0 (length (a .args .s .now)) (a .args .kept .now) (omega arith) (a .pre .1 .0 .1), a .pre .0 .0, a .pre .1 .1 .0))
+    let a = c .before .before .before .before .before .before .before .before .before .before in (
+      strict-to 0 (length (a .args .s .now)) 2048 (a .args .kept .now) (a .pre .0 .0) (a .pre .1 .0 .1),
+      omega (arith, strict-few 0 (length (a .args .s .now)) (a .args .kept .now) (omega arith) (a .pre .1 .0 .1), a .pre .0 .0, a .pre .1 .1 .0),
+    )
 
 edges-between-requires : tie.Need-edges-between-requires
 edges-between-requires c κs =
@@ -32,14 +34,31 @@ edges-between-requires c κs =
 lone : (c : tie.After-those-marked) → (c .those-marked .result ≤ 2048) × (4096 ≤ length (c .those-marked .last .1 .1 .0))
 lone c =
     let a = c .before .before .before .before .before .before .before .before .before .before .before in
-    let kept = a .args .kept .now in
-    (omega (arith, c .those-marked .ensures .count, filter-le (marked (c .before .before .before .marks .result)) kept, strict-few 0 (length (a .args .s .now)) kept (omega arith) (a .pre .1 .0 .1), a .pre .0 .0), omega (arith, c .those-marked .kept .1 .1 .0, a .pre .1 .1 .0))
+    let kept = a .args .kept .now in (
+      omega (
+        arith,
+        c .those-marked .ensures .count,
+        filter-le (marked (c .before .before .before .marks .result)) kept,
+        strict-few 0 (length (a .args .s .now)) kept (omega arith) (a .pre .1 .0 .1),
+        a .pre .0 .0,
+      ),
+      omega (arith, c .those-marked .kept .1 .1 .0, a .pre .1 .1 .0),
+    )
 
 between : (c : tie.After-edges-between) → (c .edges-between .result ≤ 2048) × (4096 ≤ length (c .edges-between .last .1 .1 .1 .0))
 between c =
-    let a = c .before .before .before .before .before .before .before .before .before .before .before .before .before .before .before .before in
-    let kept = a .args .kept .now in
-    (omega (arith, c .edges-between .ensures .count, between-few (a .args .s .now) (marked (c .before .before .before .before .before .before .before .before .marks .result)) kept, strict-few 0 (length (a .args .s .now)) kept (omega arith) (a .pre .1 .0 .1), a .pre .0 .0), omega (arith, c .edges-between .kept .1 .1 .1 .0, a .pre .1 .1 .1))
+    let at-marks = c .before .before .before .before .before .before .before .before in
+    let a = at-marks .before .before .before .before .before .before .before .before in
+    let kept = a .args .kept .now in (
+      omega (
+        arith,
+        c .edges-between .ensures .count,
+        between-few (a .args .s .now) (marked (at-marks .marks .result)) kept,
+        strict-few 0 (length (a .args .s .now)) kept (omega arith) (a .pre .1 .0 .1),
+        a .pre .0 .0,
+      ),
+      omega (arith, c .edges-between .kept .1 .1 .1 .0, a .pre .1 .1 .1),
+    )
 
 mul-second-syllables : tie.Need-mul-second-syllables
 mul-second-syllables c = omega (arith, lone (c .before .before .before .before .before .before .before))
@@ -67,8 +86,17 @@ part-second-syllables-end-2 c = search needs
 
 second-syllables-requires : tie.Need-second-syllables-requires
 second-syllables-requires c κs =
-    let a = c .before .before .before .before .before .before .before .before .before .before .before .before .before .before .before .before .before .before .before .before in
-    (omega (arith, a .pre .0 .2, a .pre .0 .0), a .pre .0 .1 ∙ sym (a .pre .0 .2), strict-to 0 (length (a .args .s .now)) 2048 (a .args .kept .now) (a .pre .0 .0) (a .pre .1 .0 .1), room-after (c .before .before .before .before .before .before .before .before .before .those-marked .last .1 .1 .0) (c .before .before .before .before .before .before .before .before .before .those-marked .result) (length (a .args .son .now)) (omega (arith, lone (c .before .before .before .before .before .before .before .before .before), a .pre .0 .2, a .pre .0 .0)), room-after (c .before .before .before .before .edges-between .last .1 .1 .1 .0) (c .before .before .before .before .edges-between .result) (length (a .args .son .now)) (omega (arith, between (c .before .before .before .before), a .pre .0 .2, a .pre .0 .0)))
+    let at-edges-between = c .before .before .before .before in
+    let at-those-marked = at-edges-between .before .before .before .before .before in
+    let a = at-those-marked .before .before .before .before .before .before .before .before .before .before .before in (
+      omega (arith, a .pre .0 .2, a .pre .0 .0),
+      a .pre .0 .1 ∙ sym (a .pre .0 .2),
+      strict-to 0 (length (a .args .s .now)) 2048 (a .args .kept .now) (a .pre .0 .0) (a .pre .1 .0 .1),
+      room-after (at-those-marked .those-marked .last .1 .1 .0) (at-those-marked .those-marked .result) (length (a .args .son .now))
+          (omega (arith, lone (at-those-marked), a .pre .0 .2, a .pre .0 .0)),
+      room-after (at-edges-between .edges-between .last .1 .1 .1 .0) (at-edges-between .edges-between .result) (length (a .args .son .now))
+          (omega (arith, between (at-edges-between), a .pre .0 .2, a .pre .0 .0)),
+    )
 
 many : (c : tie.After-slice-known6) → c .before .before .before .before .second-syllables .result ≤ 2048
 many c =
@@ -88,13 +116,19 @@ same-length-2 : tie.Need-same-length-2
 same-length-2 c = search needs
 
 returns : tie.Need-returns
-unfolding candidates sides
+unfolding extrasFrom edgesFrom
 returns c =
-    let a = c .before .before .before .before .before .before .before .before .before .before .before .before .before .before .before .before .before .before .before .before .before .before .before .before .before in
-    let m = c .before .before .before .before .before .before .before .before .before .before .before .before .before .before .before .before .before .marks in
+    let at-second-syllables = c .before .before .before .before in
+    let at-those-marked = at-second-syllables .before .before .before .before .before .before .before .before .before .before in
+    let a = at-those-marked .before .before .before .before .before .before .before .before .before .before .before in
+    let m = at-those-marked .before .before .before .marks in
     let k : length (m .result) ≡ 2048 = search (needs, m .ok) in
-    let e = marked-is (a .args .peaks .now) (m .result) (m .ensures) k (strict-below 0 2048 (a .args .peaks .now) (strict-to 0 (length (a .args .s .now)) 2048 (a .args .peaks .now) (a .pre .0 .0) (a .pre .1 .0 .0))) in
-    (rw e at (appended (c .before .before .before .before .before .before .before .before .before .before .before .before .before .before .those-marked .ensures) (c .before .before .before .before .second-syllables .ensures .0)), rw e at (appended (c .before .before .before .before .before .before .before .before .before .edges-between .ensures) (c .before .before .before .before .second-syllables .ensures .1)))
+    let e = marked-is (a .args .peaks .now) (m .result) (m .ensures) k (strict-below 0 2048 (a .args .peaks .now) (strict-to 0 (length (a .args .s .now)) 2048 (a .args .peaks .now) (a .pre .0 .0) (a .pre .1 .0 .0))) in (
+      rw e at (appended (at-those-marked .those-marked .ensures) (at-second-syllables .second-syllables .ensures .0)),
+      rw e at
+          (appended (at-second-syllables .before .before .before .before .before .edges-between .ensures)
+          (at-second-syllables .second-syllables .ensures .1)),
+    )
 
 pub gather-spec : {M : Type 1} → statement M
 gather-spec =

@@ -29,10 +29,19 @@ shared-slice-read-x : tie.Need-shared-slice-read-x Inv-loop μ-loop
 shared-slice-read-x c = search needs
 
 cast-if1 : tie.Need-cast-if1 Inv-loop μ-loop
-cast-if1 c = omega (arith, each-at (λ x. (0 ≤ x) × (x < 2048)) (c .before .before .before .args .kept .now) 0 (strict-each 0 2048 (c .before .before .before .args .kept .now) (c .before .before .before .pre .0)) (c .before .before .loop .i) (c .before .loop-test .taken) .1)
+cast-if1 c =
+    omega (
+      arith,
+      each-at (λ x. (0 ≤ x) × (x < 2048)) (c .before .before .before .args .kept .now) 0
+          (strict-each 0 2048 (c .before .before .before .args .kept .now) (c .before .before .before .pre .0)) (c .before .before .loop .i)
+          (c .before .loop-test .taken) .1,
+    )
 
 element-copy-out-if1 : tie.Need-element-copy-out-if1 Inv-loop μ-loop
-element-copy-out-if1 c = each-at (λ x. (0 ≤ x) × (x < 2048)) (c .before .before .before .args .kept .now) 0 (strict-each 0 2048 (c .before .before .before .args .kept .now) (c .before .before .before .pre .0)) (c .before .before .loop .i) (c .before .loop-test .taken) .1
+element-copy-out-if1 c =
+    each-at (λ x. (0 ≤ x) × (x < 2048)) (c .before .before .before .args .kept .now) 0
+    (strict-each 0 2048 (c .before .before .before .args .kept .now) (c .before .before .before .pre .0)) (c .before .before .loop .i)
+    (c .before .loop-test .taken) .1
 
 room : (c : tie.Then1 Inv-loop μ-loop) → c .before .before .before .before .loop .n < length (c .before .before .before .before .loop .out)
 room c = fill-fits (sift-yes _ _ _ _ (c .before .before .before .loop-test .taken) (eq-eqb _ _ (c .if1 .taken)) (c .before .before .before .before .loop .inv .1)) .0

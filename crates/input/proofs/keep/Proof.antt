@@ -41,8 +41,13 @@ loop-again : tie.Need-loop-again Inv-loop μ-loop
 loop-again c =
     let a = c .before .before .before .before .before .before .args in
     let l = c .before .before .loop in
-    let h = c .before .loop-test .taken in
-    (omega (arith, h), l .inv .1, simp length-set (l .inv .2), ap (λ (s : List ℕ). set s (a .at + l .i) (getD (a .bytes .now) (l .i) 0)) (l .inv .3) ∙ paste-suc (a .file .now) (a .at) (a .bytes .now) (l .i) 0 (omega (arith, h, l .inv .1)) (omega (arith, h, l .inv .1)) ∙ rw add-one)
+    let h = c .before .loop-test .taken in (
+      omega (arith, h),
+      l .inv .1,
+      simp length-set (l .inv .2),
+      ap (λ (s : List ℕ). set s (a .at + l .i) (getD (a .bytes .now) (l .i) 0)) (l .inv .3) ∙ paste-suc (a .file .now) (a .at) (a .bytes .now) (l .i)
+          0 (omega (arith, h, l .inv .1)) (omega (arith, h, l .inv .1)) ∙ rw add-one,
+    )
 
 same-length : tie.Need-same-length Inv-loop μ-loop
 same-length c = search needs

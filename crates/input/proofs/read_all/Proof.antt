@@ -55,13 +55,15 @@ enum-known-more c = search needs
 
 loop-less : tie.Need-loop-less Inv-loop μ-loop
 loop-less c =
-    let b = c .before .before .before .before .before .before .read-some .ensures in
-    omega (arith, more-left _ _ _ _ (b .0) (rw (c .before .more .given .1) at (b .1)) .0, c .before .before .before .before .before .before .before .before .before .loop-test .taken)
+    let at-read-some = c .before .before .before .before .before .before in
+    let b = at-read-some .read-some .ensures in
+    omega (arith, more-left _ _ _ _ (b .0) (rw (c .before .more .given .1) at (b .1)) .0, at-read-some .before .before .before .loop-test .taken)
 
 loop-again : tie.Need-loop-again Inv-loop μ-loop
 loop-again c =
-    let l = c .before .before .before .before .before .before .before .before .before .before .loop in
-    let b = c .before .before .before .before .before .before .read-some .ensures in
+    let at-read-some = c .before .before .before .before .before .before in
+    let l = at-read-some .before .before .before .before .loop in
+    let b = at-read-some .read-some .ensures in
     let m = more-left _ _ _ _ (b .0) (rw (c .before .more .given .1) at (b .1)) in
     (search needs, search needs, (_, one-more (l .inv .2 .1) (m .1 .1)))
 

@@ -18,9 +18,10 @@ count-requires c κs = search needs
 
 returns-2 : tie.Need-returns-2
 returns-2 c =
-    let a = c .before .before .before .before .before .args in
-    let back = toZ-ofZ w64 (a .got) (c .before .before .before .before .before .fits .got) in
-    ended (a .chunk .now) (a .file .now) (a .file .now) (a .total) (a .got) (c .before .before .before .before .before .pre .1) (rw back at (c .before .before .if1 .left)) (rw back at (c .before .count .ensures .1)) (c .if2 .taken) refl
+    let start = c .before .before .before .before .before in
+    let a = start .args in
+    let back = toZ-ofZ w64 (a .got) (start .fits .got) in
+    ended (a .chunk .now) (a .file .now) (a .file .now) (a .total) (a .got) (start .pre .1) (rw back at (c .before .before .if1 .left)) (rw back at (c .before .count .ensures .1)) (c .if2 .taken) refl
 
 slice-aggregate-add-piece : tie.Need-slice-aggregate-add-piece
 slice-aggregate-add-piece c = search needs
@@ -33,9 +34,11 @@ same-length c = search needs
 
 returns-3 : tie.Need-returns-3
 returns-3 c =
-    let a = c .before .before .before .before .before .before .before .before .before .before .args in
-    let back = toZ-ofZ w64 (a .got) (c .before .before .before .before .before .before .before .before .before .before .fits .got) in
-    counted (a .chunk .now) (a .file .now) _ (a .total) (a .got) (c .before .before .before .before .before .before .before .before .before .before .pre .1) (rw back at (c .before .before .before .before .before .before .count .ensures .1)) (c .before .before .before .before .before .if2 .left) (c .before .before .add-piece .ensures)
+    let at-count = c .before .before .before .before .before .before in
+    let start = at-count .before .before .before .before in
+    let a = start .args in
+    let back = toZ-ofZ w64 (a .got) (start .fits .got) in
+    counted (a .chunk .now) (a .file .now) _ (a .total) (a .got) (start .pre .1) (rw back at (at-count .count .ensures .1)) (c .before .before .before .before .before .if2 .left) (c .before .before .add-piece .ensures)
 
 pub take-in-spec : {M : Type 1} → statement M
 take-in-spec =

@@ -6,7 +6,9 @@ use Rattle.kiddwyr.proofs.boundaries_given.Statement.{statement}
 use Rattle.kiddwyr.proofs.boundaries_given.Tie as tie
 
 slice-aggregate-boundaries : tie.Need-slice-aggregate-boundaries
-slice-aggregate-boundaries c = sym (length-take-le (c .before .before .before .before .before .before .args .count) (c .before .before .before .before .before .before .args .given .now) (c .before .before .before .before .before .before .pre))
+slice-aggregate-boundaries c =
+    let start = c .before .before .before .before .before .before in
+    sym (length-take-le (start .args .count) (start .args .given .now) (start .pre))
 
 boundaries-requires : tie.Need-boundaries-requires
 boundaries-requires c κs = search needs

@@ -6,7 +6,9 @@ use Rattle.kiddwyr.proofs.boundaries_with_given.Statement.{statement}
 use Rattle.kiddwyr.proofs.boundaries_with_given.Tie as tie
 
 slice-aggregate-boundaries-with : tie.Need-slice-aggregate-boundaries-with
-slice-aggregate-boundaries-with c = sym (length-take-le (c .before .before .before .before .before .before .args .count) (c .before .before .before .before .before .before .args .given .now) (c .before .before .before .before .before .before .pre))
+slice-aggregate-boundaries-with c =
+    let start = c .before .before .before .before .before .before in
+    sym (length-take-le (start .args .count) (start .args .given .now) (start .pre))
 
 boundaries-with-requires : tie.Need-boundaries-with-requires
 boundaries-with-requires c κs = search needs

@@ -16,25 +16,36 @@ slice-relend-prefix-chain : tie.Need-slice-relend-prefix-chain
 slice-relend-prefix-chain c = search needs
 
 slice-aggregate-chain : tie.Need-slice-aggregate-chain
-slice-aggregate-chain c = cut-long (c .before .before .before .smaller .result) (c .before .before .before .before .before .before .before .before .before .before .before .before .before .before .before .args .frames .now) _ (c .before .before .before .smaller .ensures) (c .before .before .before .before .before .before .before .before .before .before .before .before .before .before .before .pre .0 .0)
+slice-aggregate-chain c =
+    let start = c .before .before .before .before .before .before .before .before .before .before .before .before .before .before .before in
+    cut-long (c .before .before .before .smaller .result) (start .args .frames .now) _ (c .before .before .before .smaller .ensures) (start .pre .0 .0)
 
 slice-relend-prefix-chain-2 : tie.Need-slice-relend-prefix-chain-2
 slice-relend-prefix-chain-2 c = search needs
 
 slice-aggregate-chain-2 : tie.Need-slice-aggregate-chain-2
-slice-aggregate-chain-2 c = cut-long (c .before .before .before .before .smaller .result) (c .before .before .before .before .before .before .before .before .before .before .before .before .before .before .before .before .args .strengths .now) _ (c .before .before .before .before .smaller .ensures) (c .before .before .before .before .before .before .before .before .before .before .before .before .before .before .before .before .pre .0 .1)
+slice-aggregate-chain-2 c =
+    let at-smaller = c .before .before .before .before in
+    let start = at-smaller .before .before .before .before .before .before .before .before .before .before .before .before in
+    cut-long (at-smaller .smaller .result) (start .args .strengths .now) _ (at-smaller .smaller .ensures) (start .pre .0 .1)
 
 slice-relend-prefix-chain-3 : tie.Need-slice-relend-prefix-chain-3
 slice-relend-prefix-chain-3 c = search needs
 
 slice-aggregate-chain-3 : tie.Need-slice-aggregate-chain-3
-slice-aggregate-chain-3 c = cut-long (c .before .before .before .before .smaller2 .result) (c .before .before .before .before .before .before .before .before .before .before .before .before .before .before .before .before .before .args .xframes .now) _ (c .before .before .before .before .smaller2 .ensures) (c .before .before .before .before .before .before .before .before .before .before .before .before .before .before .before .before .before .pre .1 .0)
+slice-aggregate-chain-3 c =
+    let at-smaller2 = c .before .before .before .before in
+    let start = at-smaller2 .before .before .before .before .before .before .before .before .before .before .before .before .before in
+    cut-long (at-smaller2 .smaller2 .result) (start .args .xframes .now) _ (at-smaller2 .smaller2 .ensures) (start .pre .1 .0)
 
 slice-relend-prefix-chain-4 : tie.Need-slice-relend-prefix-chain-4
 slice-relend-prefix-chain-4 c = search needs
 
 slice-aggregate-chain-4 : tie.Need-slice-aggregate-chain-4
-slice-aggregate-chain-4 c = cut-long (c .before .before .before .before .before .smaller2 .result) (c .before .before .before .before .before .before .before .before .before .before .before .before .before .before .before .before .before .before .args .xstrengths .now) _ (c .before .before .before .before .before .smaller2 .ensures) (c .before .before .before .before .before .before .before .before .before .before .before .before .before .before .before .before .before .before .pre .1 .1)
+slice-aggregate-chain-4 c =
+    let at-smaller2 = c .before .before .before .before .before in
+    let start = at-smaller2 .before .before .before .before .before .before .before .before .before .before .before .before .before in
+    cut-long (at-smaller2 .smaller2 .result) (start .args .xstrengths .now) _ (at-smaller2 .smaller2 .ensures) (start .pre .1 .1)
 
 chain-requires : tie.Need-chain-requires
 chain-requires c κs = search needs
@@ -62,12 +73,15 @@ same-length-7 c = search needs
 
 returns : tie.Need-returns
 returns c =
-    let a = c .before .before .before .before .before .before .before .before .before .before .before .before .before .before .before .before .before .before .before .before .before .before .before .before .before .before .before .before .before .before .before .before .before .before .before .args in
-    let kept = c .before .before .before .before .before .before .before .before .before .before .before .before .before .before .chain .kept in
+    let at-chain = c .before .before .before .before .before .before .before .before .before .before .before .before .before .before in
+    let at-smaller2 = at-chain .before .before .before .before .before .before .before .before in
+    let start = at-smaller2 .before .before .before .before .before .before .before .before .before .before .before .before .before in
+    let a = start .args in
+    let kept = at-chain .chain .kept in
     noted (takeOf (a .db .now) (a .pitch .now) (a .voiced .now) (a .sonority .now) (a .vowel .now) (a .samples .now) (a .p))
-    (a .room) (a .xroom) (c .before .before .before .before .before .before .before .before .before .before .before .before .before .before .before .before .before .before .before .before .before .before .before .smaller .result) (c .before .before .before .before .before .before .before .before .before .before .before .before .before .before .before .before .before .before .before .before .before .before .smaller2 .result)
+    (a .room) (a .xroom) (at-smaller2 .before .smaller .result) (at-smaller2 .smaller2 .result)
     (listsOf (a .frames .now) (a .strengths .now) (a .xframes .now) (a .xstrengths .now) (a .edges .now) (a .bounds .now))
-    (c .before .before .before .before .before .before .before .before .before .before .before .before .before .before .before .before .before .before .before .before .before .before .before .smaller .ensures) (c .before .before .before .before .before .before .before .before .before .before .before .before .before .before .before .before .before .before .before .before .before .before .smaller2 .ensures) (c .before .before .before .before .before .before .before .before .before .before .before .before .before .before .before .before .before .before .before .before .before .before .before .before .before .before .before .before .before .before .before .before .before .before .before .pre) (kept .1 .1 .1 .1 .1 .1 .1 .0) (kept .1 .1 .1 .1 .1 .1 .1 .1 .1 .0) (c .before .before .before .before .before .before .before .before .before .before .before .before .before .before .chain .ensures)
+    (at-smaller2 .before .smaller .ensures) (at-smaller2 .smaller2 .ensures) (start .pre) (kept .1 .1 .1 .1 .1 .1 .1 .0) (kept .1 .1 .1 .1 .1 .1 .1 .1 .1 .0) (at-chain .chain .ensures)
 
 pub chain-within-spec : {M : Type 1} → statement M
 chain-within-spec =

@@ -14,19 +14,25 @@ smaller-requires : tie.Need-smaller-requires
 smaller-requires c κs = search needs
 
 slice-aggregate-extras : tie.Need-slice-aggregate-extras
-slice-aggregate-extras c = sym (length-take-le (c .before .before .before .before .before .before .before .before .before .args .count) (c .before .before .before .before .before .before .before .before .before .args .given .now) (c .before .before .before .before .before .before .before .before .before .pre .0))
+slice-aggregate-extras c =
+    let start = c .before .before .before .before .before .before .before .before .before in
+    sym (length-take-le (start .args .count) (start .args .given .now) (start .pre .0))
 
 slice-relend-prefix-extras : tie.Need-slice-relend-prefix-extras
 slice-relend-prefix-extras c = search needs
 
 slice-aggregate-extras-2 : tie.Need-slice-aggregate-extras-2
-slice-aggregate-extras-2 c = cut-long (c .before .before .smaller .result) (c .before .before .before .before .before .before .before .before .before .before .args .frames .now) _ (c .before .before .smaller .ensures) (c .before .before .before .before .before .before .before .before .before .before .pre .1 .0)
+slice-aggregate-extras-2 c =
+    let start = c .before .before .before .before .before .before .before .before .before .before in
+    cut-long (c .before .before .smaller .result) (start .args .frames .now) _ (c .before .before .smaller .ensures) (start .pre .1 .0)
 
 slice-relend-prefix-extras-2 : tie.Need-slice-relend-prefix-extras-2
 slice-relend-prefix-extras-2 c = search needs
 
 slice-aggregate-extras-3 : tie.Need-slice-aggregate-extras-3
-slice-aggregate-extras-3 c = cut-long (c .before .before .before .smaller .result) (c .before .before .before .before .before .before .before .before .before .before .before .args .strengths .now) _ (c .before .before .before .smaller .ensures) (c .before .before .before .before .before .before .before .before .before .before .before .pre .1 .1)
+slice-aggregate-extras-3 c =
+    let start = c .before .before .before .before .before .before .before .before .before .before .before in
+    cut-long (c .before .before .before .smaller .result) (start .args .strengths .now) _ (c .before .before .before .smaller .ensures) (start .pre .1 .1)
 
 extras-requires : tie.Need-extras-requires
 extras-requires c κs = search needs
@@ -42,17 +48,25 @@ same-length-3 c = search needs
 
 returns : tie.Need-returns
 returns c =
-    let a = c .before .before .before .before .before .before .before .before .before .before .before .before .before .before .before .before .before .before .before .args in
-    let pre = c .before .before .before .before .before .before .before .before .before .before .before .before .before .before .before .before .before .before .before .pre in
-    let k = c .before .before .before .before .before .before .before .before .before .before .before .smaller .result in
-    let least : k ≡ min (a .room) 2048 = c .before .before .before .before .before .before .before .before .before .before .before .smaller .ensures in
+    let at-extras = c .before .before .before .before .before .before in
+    let at-smaller = at-extras .before .before .before .before .before in
+    let start = at-smaller .before .before .before .before .before .before .before .before in
+    let a = start .args in
+    let pre = start .pre in
+    let k = at-smaller .smaller .result in
+    let least : k ≡ min (a .room) 2048 = at-smaller .smaller .ensures in
     let f : length (take k (a .frames .now)) ≡ min (a .room) 2048 = sym (cut-long k (a .frames .now) _ least (pre .1 .0)) ∙ least in
     let s : length (take k (a .strengths .now)) ≡ min (a .room) 2048 = sym (cut-long k (a .strengths .now) _ least (pre .1 .1)) ∙ least in
-    let said = c .before .before .before .before .before .before .extras .ensures in (
-      said .0 ∙ extras-room (a .db .now) (a .pitch .now) (a .sonority .now) (a .start) (a .end) (take (a .count) (a .given .now)) (a .p) (length (take k (a .frames .now))) (length (take k (a .strengths .now))) (a .room) (length (a .edges .now)) f s,
-      part-laid {k = k} (extras-room-found (a .db .now) (a .pitch .now) (a .sonority .now) (a .start) (a .end) (take (a .count) (a .given .now)) (a .p) (length (take k (a .frames .now))) (length (take k (a .strengths .now))) (a .room) (length (a .edges .now)) f s) (omega (arith, least))
-          (omega (arith, c .before .before .before .before .before .before .extras .kept .1 .1 .1 .1 .1 .1 .1 .0, f, least)) (drop k (a .frames .now)) (drop k (a .strengths .now)) (said .1) (said .2),
-      relisted (edges-room-found (a .db .now) (a .pitch .now) (a .sonority .now) (a .start) (a .end) (take (a .count) (a .given .now)) (a .p) (length (take k (a .frames .now))) (length (take k (a .strengths .now))) (a .room) (length (a .edges .now)) f s) (said .3),
+    let said = at-extras .extras .ensures in (
+      said .0 ∙ extras-room (a .db .now) (a .pitch .now) (a .sonority .now) (a .start) (a .end) (take (a .count) (a .given .now)) (a .p)
+          (length (take k (a .frames .now))) (length (take k (a .strengths .now))) (a .room) (length (a .edges .now)) f s,
+      part-laid {k = k}
+          (extras-room-found (a .db .now) (a .pitch .now) (a .sonority .now) (a .start) (a .end) (take (a .count) (a .given .now)) (a .p)
+          (length (take k (a .frames .now))) (length (take k (a .strengths .now))) (a .room) (length (a .edges .now)) f s) (omega (arith, least))
+          (omega (arith, at-extras .extras .kept .1 .1 .1 .1 .1 .1 .1 .0, f, least)) (drop k (a .frames .now)) (drop k (a .strengths .now)) (said .1) (said .2),
+      relisted
+          (edges-room-found (a .db .now) (a .pitch .now) (a .sonority .now) (a .start) (a .end) (take (a .count) (a .given .now)) (a .p)
+          (length (take k (a .frames .now))) (length (take k (a .strengths .now))) (a .room) (length (a .edges .now)) f s) (said .3),
     )
 
 pub extras-within-spec : {M : Type 1} → statement M

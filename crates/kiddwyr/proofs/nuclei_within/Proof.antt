@@ -15,13 +15,17 @@ slice-relend-prefix-nuclei : tie.Need-slice-relend-prefix-nuclei
 slice-relend-prefix-nuclei c = search needs
 
 slice-aggregate-nuclei : tie.Need-slice-aggregate-nuclei
-slice-aggregate-nuclei c = cut-long (c .before .smaller .result) (c .before .before .before .before .before .before .args .frames .now) _ (c .before .smaller .ensures) (c .before .before .before .before .before .before .pre .0)
+slice-aggregate-nuclei c =
+    let start = c .before .before .before .before .before .before in
+    cut-long (c .before .smaller .result) (start .args .frames .now) _ (c .before .smaller .ensures) (start .pre .0)
 
 slice-relend-prefix-nuclei-2 : tie.Need-slice-relend-prefix-nuclei-2
 slice-relend-prefix-nuclei-2 c = search needs
 
 slice-aggregate-nuclei-2 : tie.Need-slice-aggregate-nuclei-2
-slice-aggregate-nuclei-2 c = cut-long (c .before .before .smaller .result) (c .before .before .before .before .before .before .before .args .strengths .now) _ (c .before .before .smaller .ensures) (c .before .before .before .before .before .before .before .pre .1)
+slice-aggregate-nuclei-2 c =
+    let start = c .before .before .before .before .before .before .before in
+    cut-long (c .before .before .smaller .result) (start .args .strengths .now) _ (c .before .before .smaller .ensures) (start .pre .1)
 
 nuclei-requires : tie.Need-nuclei-requires
 nuclei-requires c κs = search needs
@@ -34,16 +38,19 @@ same-length-2 c = search needs
 
 returns : tie.Need-returns
 returns c =
-    let a = c .before .before .before .before .before .before .before .before .before .before .before .before .args in
-    let pre = c .before .before .before .before .before .before .before .before .before .before .before .before .pre in
-    let k = c .before .before .before .before .before .before .before .smaller .result in
-    let least : k ≡ min (a .room) 2048 = c .before .before .before .before .before .before .before .smaller .ensures in
+    let at-nuclei = c .before .before .before .before in
+    let at-smaller = at-nuclei .before .before .before in
+    let start = at-smaller .before .before .before .before .before in
+    let a = start .args in
+    let pre = start .pre in
+    let k = at-smaller .smaller .result in
+    let least : k ≡ min (a .room) 2048 = at-smaller .smaller .ensures in
     let f : length (take k (a .frames .now)) ≡ min (a .room) 2048 = sym (cut-long k (a .frames .now) _ least (pre .0)) ∙ least in
     let s : length (take k (a .strengths .now)) ≡ min (a .room) 2048 = sym (cut-long k (a .strengths .now) _ least (pre .1)) ∙ least in
-    let said = c .before .before .before .before .nuclei .ensures in
+    let said = at-nuclei .nuclei .ensures in
     let found = nuclei-room-found (a .db .now) (a .pitch .now) (a .start) (a .end) (a .p) (length (take k (a .frames .now))) (length (take k (a .strengths .now))) (a .room) f s in (
       said .0 ∙ nuclei-room (a .db .now) (a .pitch .now) (a .start) (a .end) (a .p) (length (take k (a .frames .now))) (length (take k (a .strengths .now))) (a .room) f s,
-      part-laid {k = k} found (omega (arith, least)) (omega (arith, c .before .before .before .before .nuclei .kept .1 .1 .1 .1 .1 .0, f, least)) (drop k (a .frames .now)) (drop k (a .strengths .now)) (said .1) (said .2),
+      part-laid {k = k} found (omega (arith, least)) (omega (arith, at-nuclei .nuclei .kept .1 .1 .1 .1 .1 .0, f, least)) (drop k (a .frames .now)) (drop k (a .strengths .now)) (said .1) (said .2),
     )
 
 pub nuclei-within-spec : {M : Type 1} → statement M

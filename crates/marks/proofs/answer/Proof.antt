@@ -43,7 +43,8 @@ same-length c = search needs
 
 returns-2 : tie.Need-returns-2
 returns-2 c =
-    let s = rw (c .before .before .before .before .before .before .total .given .1) at (c .before .before .before .before .before .before .before .before .before .read-file .ensures) in
+    let at-total = c .before .before .before .before .before .before in
+    let s = rw (at-total .total .given .1) at (at-total .before .before .before .read-file .ensures) in
     (s .0, c .before .before .tell .ensures (piecesJoined (s .0)) (pieces-held (s .1)))
 
 same-length-2 : tie.Need-same-length-2
@@ -51,7 +52,8 @@ same-length-2 c = search needs
 
 returns-3 : tie.Need-returns-3
 returns-3 c =
-    let s = rw (c .before .before .before .before .before .before .total2 .given .1) at (c .before .before .before .before .before .before .before .before .before .read-file .ensures) in
+    let at-total2 = c .before .before .before .before .before .before in
+    let s = rw (at-total2 .total2 .given .1) at (at-total2 .before .before .before .read-file .ensures) in
     (s .0, c .before .before .tell2 .ensures (piecesJoined (s .0)) (pieces-held (s .1)))
 
 pub answer-spec : {M : Type 1} → statement M

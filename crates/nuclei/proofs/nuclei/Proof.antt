@@ -44,7 +44,9 @@ slice-aggregate-nucleus-frames-2 c = search needs
 
 nucleus-frames-requires : tie.Need-nucleus-frames-requires
 nucleus-frames-requires c κs =
-    let e = length-take-le (length (c .before .before .before .before .before .before .before .before .before .before .before .before .before .before .args .db .now)) (c .before .before .before .before .smoothed-db .last .1 .0) (omega arith) in
+    let e = length-take-le
+    (length (c .before .before .before .before .before .before .before .before .before .before .before .before .before .before .args .db .now))
+    (c .before .before .before .before .smoothed-db .last .1 .0) (omega arith) in
     rw (c .before .bounds-over .ensures) (omega arith, omega arith, omega arith, omega arith)
 
 array-share-prefix-s-2 : tie.Need-array-share-prefix-s-2
@@ -61,7 +63,8 @@ slice-aggregate-write-nuclei-2 c = sym (length-take-le _ _ (c .before .before .b
 
 write-nuclei-requires : tie.Need-write-nuclei-requires
 write-nuclei-requires c κs =
-    let e = length-take-le (length (c .before .before .before .before .before .before .before .before .before .before .before .before .before .before .before .before .before .before .before .before .args .db .now)) (c .before .before .before .before .before .before .before .before .before .before .smoothed-db .last .1 .0) (omega arith) in
+    let at-smoothed-db = c .before .before .before .before .before .before .before .before .before .before in
+    let e = length-take-le (length (at-smoothed-db .before .before .before .before .before .before .before .before .before .before .args .db .now)) (at-smoothed-db .smoothed-db .last .1 .0) (omega arith) in
     let f = c .before .before .before .before .before .nucleus-frames .ensures in
     (omega (arith, kept-few _ _ _ _ _ _ f), omega (arith, kept-few _ _ _ _ _ _ f), kept-below _ _ _ _ _ _ f)
 
@@ -74,9 +77,11 @@ same-length-2 c = search needs
 returns-2 : tie.Need-returns-2
 unfolding nucleiOf nucleiOver
 returns-2 c =
-    let e = sym (c .before .before .before .before .before .before .before .before .before .before .before .before .before .before .before .before .before .before .before .before .floor-db .ensures) ∙ c .before .before .before .before .before .before .before .before .before .before .before .before .before .before .before .before .before .before .floor .given .1 in
-    let l = level-take (c .before .before .before .before .before .before .before .before .before .before .before .before .before .before .before .before .before .before .before .before .before .before .before .before .before .args .db .now) _ (c .before .before .before .before .before .before .before .before .before .before .before .before .before .before .before .smoothed-db .ensures) in
-    rw e (rw (c .before .before .before .before .before .before .before .before .before .before .nucleus-frames .ensures .entries, l, c .before .before .before .before .before .before .before .before .before .before .before .before .bounds-over .ensures) at (c .before .before .before .before .write-nuclei .ensures))
+    let at-nucleus-frames = c .before .before .before .before .before .before .before .before .before .before in
+    let at-floor = at-nucleus-frames .before .before .before .before .before .before .before .before in
+    let e = sym (at-floor .before .before .floor-db .ensures) ∙ at-floor .floor .given .1 in
+    let l = level-take (at-floor .before .before .before .before .before .before .before .args .db .now) _ (at-nucleus-frames .before .before .before .before .before .smoothed-db .ensures) in
+    rw e (rw (at-nucleus-frames .nucleus-frames .ensures .entries, l, at-nucleus-frames .before .before .bounds-over .ensures) at (c .before .before .before .before .write-nuclei .ensures))
 
 pub nuclei-spec : {M : Type 1} → statement M
 nuclei-spec =

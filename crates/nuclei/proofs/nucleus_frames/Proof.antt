@@ -80,19 +80,24 @@ slice-aggregate-frames-over-4 c = listed-count (c .before .before .before .befor
 
 frames-over-requires : tie.Need-frames-over-requires
 frames-over-requires c κs =
-    let pitch = c .before .before .before .before .before .before .before .before .before .before .before .before .before .before .before .before .before .before .before .before .before .before .before .before .args .pitch .now in
-    let w = written (longRuns pitch) (c .before .before .before .before .before .before .before .before .before .before .before .before .before .before .before .before .long-runs .ensures) in
-    let v = syllables-written pitch _ (w .runs) (c .before .before .before .before .before .before .before .syllables-of .ensures) in
-    (c .before .before .before .before .before .before .before .before .before .before .before .before .before .before .before .before .before .before .before .before .before .before .before .before .pre .0, c .before .before .before .before .before .before .before .before .before .before .before .before .before .before .before .before .before .before .before .before .before .before .before .before .pre .1, (w .firsts-many ∙ sym (w .lasts-many), omega (arith, w .firsts-many, long-few pitch)), (v .firsts-many ∙ sym (v .lasts-many), omega (arith, v .firsts-many, syllable-few pitch)), c .before .before .before .before .before .before .before .before .before .before .before .before .before .before .before .before .before .before .before .before .before .before .before .before .pre .3)
+    let at-syllables-of = c .before .before .before .before .before .before .before in
+    let at-long-runs = at-syllables-of .before .before .before .before .before .before .before .before .before in
+    let start = at-long-runs .before .before .before .before .before .before .before .before in
+    let pitch = start .args .pitch .now in
+    let w = written (longRuns pitch) (at-long-runs .long-runs .ensures) in
+    let v = syllables-written pitch _ (w .runs) (at-syllables-of .syllables-of .ensures) in
+    (start .pre .0, start .pre .1, (w .firsts-many ∙ sym (w .lasts-many), omega (arith, w .firsts-many, long-few pitch)), (v .firsts-many ∙ sym (v .lasts-many), omega (arith, v .firsts-many, syllable-few pitch)), start .pre .3)
 
 same-length : tie.Need-same-length
 same-length c = search needs
 
 returns : tie.Need-returns
 returns c =
-    let pitch = c .before .before .before .before .before .before .before .before .before .before .before .before .before .before .before .before .before .before .before .before .before .before .before .before .before .before .before .args .pitch .now in
-    let w = written (longRuns pitch) (c .before .before .before .before .before .before .before .before .before .before .before .before .before .before .before .before .before .before .before .long-runs .ensures) in
-    let v = syllables-written pitch _ (w .runs) (c .before .before .before .before .before .before .before .before .before .before .syllables-of .ensures) in
+    let at-syllables-of = c .before .before .before .before .before .before .before .before .before .before in
+    let at-long-runs = at-syllables-of .before .before .before .before .before .before .before .before .before in
+    let pitch = at-long-runs .before .before .before .before .before .before .before .before .args .pitch .now in
+    let w = written (longRuns pitch) (at-long-runs .long-runs .ensures) in
+    let v = syllables-written pitch _ (w .runs) (at-syllables-of .syllables-of .ensures) in
     rw (v .runs, w .runs) at (c .before .before .frames-over .ensures)
 
 pub nucleus-frames-spec : {M : Type 1} → statement M

@@ -11,7 +11,9 @@ use Rattle.nuclei.proofs.write_nuclei.Statement.{statement}
 use Rattle.nuclei.proofs.write_nuclei.Tie as tie
 
 abbrev Inv-loop : tie.InvT-loop
-Inv-loop s floor kept frames₀ strengths₀ i₀ frames strengths i = (i ≤ length kept) × Filling (framesOf (map (nucleusAt s floor) kept)) (framesOf (map (nucleusAt s floor) (drop i kept))) frames₀ frames i × Filling (strengthsOf (map (nucleusAt s floor) kept)) (strengthsOf (map (nucleusAt s floor) (drop i kept))) strengths₀ strengths i
+Inv-loop s floor kept frames₀ strengths₀ i₀ frames strengths i =
+    (i ≤ length kept) × Filling (framesOf (map (nucleusAt s floor) kept)) (framesOf (map (nucleusAt s floor) (drop i kept))) frames₀ frames i
+    × Filling (strengthsOf (map (nucleusAt s floor) kept)) (strengthsOf (map (nucleusAt s floor) (drop i kept))) strengths₀ strengths i
 
 abbrev μ-loop : tie.MeasureT-loop
 μ-loop s floor kept frames₀ strengths₀ i₀ frames strengths i = length kept - i
@@ -35,10 +37,17 @@ cast-strengths : tie.Need-cast-strengths Inv-loop μ-loop
 cast-strengths c = omega (arith, c .shared-slice-known .given (c .before .before .loop .i))
 
 mul-strengths : tie.Need-mul-strengths Inv-loop μ-loop
-mul-strengths c = omega (arith, each-at (λ (x : ℕ). x < length (c .before .before .before .args .s .now)) (c .before .before .before .args .kept .now) 0 (c .before .before .before .pre .2) (c .before .before .loop .i) (c .before .loop-test .taken))
+mul-strengths c =
+    omega (
+      arith,
+      each-at (λ (x : ℕ). x < length (c .before .before .before .args .s .now)) (c .before .before .before .args .kept .now) 0
+          (c .before .before .before .pre .2) (c .before .before .loop .i) (c .before .loop-test .taken),
+    )
 
 shared-slice-read-strengths : tie.Need-shared-slice-read-strengths Inv-loop μ-loop
-shared-slice-read-strengths c = each-at (λ (x : ℕ). x < length (c .before .before .before .before .args .s .now)) (c .before .before .before .before .args .kept .now) 0 (c .before .before .before .before .pre .2) (c .before .before .before .loop .i) (c .before .before .loop-test .taken)
+shared-slice-read-strengths c =
+    let start = c .before .before .before .before in
+    each-at (λ (x : ℕ). x < length (start .args .s .now)) (start .args .kept .now) 0 (start .pre .2) (c .before .before .before .loop .i) (c .before .before .loop-test .taken)
 
 mul-strengths-2 : tie.Need-mul-strengths-2 Inv-loop μ-loop
 mul-strengths-2 c = search needs

@@ -83,4 +83,5 @@ returns c =
 pub tenth-spec : {M : Type 1} → statement M
 tenth-spec =
     tie.close
-    (tie.spec cast-last sub-last kth-requires key-above-requires from-total-key-requires f32-to-f64-with-nan-requires from-total-key-requires-2 f32-to-f64-with-nan-requires-2 int-to-float-rank int-to-float-round-to-f32 round-to-f32-requires returns)
+    (tie.spec cast-last sub-last kth-requires key-above-requires from-total-key-requires f32-to-f64-with-nan-requires from-total-key-requires-2
+    f32-to-f64-with-nan-requires-2 int-to-float-rank int-to-float-round-to-f32 round-to-f32-requires returns)

@@ -18,24 +18,28 @@ chain-requires c κs = search needs
 
 show-requires : tie.Need-show-requires
 show-requires c κs =
-    let p = c .before .before .before .before .before .before .before .before .before .before .before .before .before .before .before .before .before .before .before .before .before .before .before .before .before .before .before .before .before .before .before .before .before .before .before .before .before .before .before .before .before .before .before .before .pre .0 in
+    let at-bounds = c .before .before .before .before .before .before .before .before .before in
+    let at-xframes = at-bounds .before .before .before .before .before .before in
+    let at-pitch = at-xframes .before .before .before .before .before .before in
+    let start = at-pitch .before .before .before .before .before .before .before .before .before .before .before .before .before .before .before .before .before .before .before .before .before .before .before in
+    let p = start .pre .0 in
     let r = p .1 in
-    let n = c .before .before .before .before .before .before .before .before .before .before .before .before .before .before .before .before .before .before .before .before .before .pitch .given in
-    let f = c .before .before .before .before .before .before .before .before .before .before .before .before .before .before .before .before .before .before .before .frames .given in
-    let x = c .before .before .before .before .before .before .before .before .before .before .before .before .before .before .before .xframes .given in (
+    let n = at-pitch .pitch .given in
+    let f = at-xframes .before .before .before .before .frames .given in
+    let x = at-xframes .xframes .given in (
       (
         omega (arith, n, p .0),
         record {
           few = omega (arith, n, r .few);
           frames = omega (arith, n, f, r .frames);
-          strengths = omega (arith, c .before .before .before .before .before .before .before .before .before .before .before .before .before .before .before .before .before .strengths .given, f, r .strengths);
+          strengths = omega (arith, at-xframes .before .before .strengths .given, f, r .strengths);
           xframes = omega (arith, n, x, r .xframes);
-          xstrengths = omega (arith, c .before .before .before .before .before .before .before .before .before .before .before .before .before .xstrengths .given, x, r .xstrengths);
-          edges = omega (arith, n, c .before .before .before .before .before .before .before .before .before .before .before .edges .given, r .edges);
-          bounds = omega (arith, n, c .before .before .before .before .before .before .before .before .before .bounds .given, r .bounds);
+          xstrengths = omega (arith, at-bounds .before .before .before .before .xstrengths .given, x, r .xstrengths);
+          edges = omega (arith, n, at-bounds .before .before .edges .given, r .edges);
+          bounds = omega (arith, n, at-bounds .bounds .given, r .bounds);
         },
       ),
-      c .before .before .before .before .before .before .before .before .before .before .before .before .before .before .before .before .before .before .before .before .before .before .before .before .before .before .before .before .before .before .before .before .before .before .before .before .before .before .before .before .before .before .before .before .pre .1,
+      start .pre .1,
     )
 
 same-length : tie.Need-same-length
@@ -63,7 +67,13 @@ same-length-8 : tie.Need-same-length-8
 same-length-8 c = search needs
 
 returns : tie.Need-returns
-returns c = relisted (ap (shown (c .before .before .before .before .before .before .before .before .before .before .before .before .before .before .before .before .before .before .before .before .before .before .before .before .before .before .before .before .before .before .before .before .before .before .before .before .before .before .before .before .before .before .before .before .before .before .before .args .given .now)) (c .before .before .before .before .before .before .before .before .before .before .before .before .before .before .before .before .before .before .before .before .before .before .before .before .before .chain .ensures)) (c .before .before .show .ensures)
+returns c =
+    let at-chain = c .before .before .before .before .before .before .before .before .before .before .before .before .before .before .before .before .before .before .before .before .before .before .before .before .before in
+    relisted
+    (ap
+    (shown
+    (at-chain .before .before .before .before .before .before .before .before .before .before .before .before .before .before .before .before .before .before .before .before .before .before .args .given .now))
+    (at-chain .chain .ensures)) (c .before .before .show .ensures)
 
 pub list-marks-spec : {M : Type 1} → statement M
 list-marks-spec =

@@ -23,7 +23,11 @@ same-length : tie.Need-same-length
 same-length c = search needs
 
 returns : tie.Need-returns
-returns c = relisted (taken-printed (c .before .before .before .before .before .before .before .before .args .file .now) (sym (c .before .before .before .before .before .take-refusal .ensures) ∙ c .before .before .before .before .if1 .taken)) (c .before .before .with-tracks .ensures)
+returns c =
+    relisted
+    (taken-printed (c .before .before .before .before .before .before .before .before .args .file .now)
+    (sym (c .before .before .before .before .before .take-refusal .ensures) ∙ c .before .before .before .before .if1 .taken))
+    (c .before .before .with-tracks .ensures)
 
 refused-requires : tie.Need-refused-requires
 refused-requires c κs = omega (arith, refused-fits (c .before .before .take-refusal .result), c .before .before .before .before .before .pre)
@@ -32,7 +36,11 @@ same-length-2 : tie.Need-same-length-2
 same-length-2 c = search needs
 
 returns-2 : tie.Need-returns-2
-returns-2 c = relisted (ap refusedListing (c .before .before .before .before .before .take-refusal .ensures) ∙ refused-printed (c .before .before .before .before .before .before .before .before .args .file .now) (λ e. c .before .before .before .before .if1 .left (c .before .before .before .before .before .take-refusal .ensures ∙ e))) (c .before .before .refused .ensures)
+returns-2 c =
+    let at-take-refusal = c .before .before .before .before .before in
+    relisted
+    (ap refusedListing (at-take-refusal .take-refusal .ensures) ∙ refused-printed (at-take-refusal .before .before .before .args .file .now)
+    (λ e. c .before .before .before .before .if1 .left (at-take-refusal .take-refusal .ensures ∙ e))) (c .before .before .refused .ensures)
 
 pub marks-of-spec : {M : Type 1} → statement M
 marks-of-spec =

@@ -17,8 +17,10 @@ read-take-requires c κs = search needs
 
 with-lists-requires : tie.Need-with-lists-requires
 with-lists-requires c κs =
-    let s = c .before .before .before .before .before .before .before .before .before .before .before .before .before .before .before .before .before .before .before .before .before .before .before .before .before .before .before .before .before .before .before .before .before .before .before in
-    ((pitches-same (s .args .file .now) (s .pre .1 .0 .5) (c .before .before .before .before .before .before .before .before .before .before .before .before .before .before .before .before .before .before .before .before .before .before .before .before .before .read-track .ensures) (c .before .before .before .before .before .before .before .before .before .before .before .before .before .before .before .before .before .read-take .ensures), omega (arith, c .before .before .before .before .before .before .before .before .before .before .before .before .before .before .pitch .given, s .pre)), s .pre .1 .1)
+    let at-pitch = c .before .before .before .before .before .before .before .before .before .before .before .before .before .before in
+    let at-read-track = at-pitch .before .before .before .before .before .before .before .before .before .before .before in
+    let s = at-read-track .before .before .before .before .before .before .before .before .before .before in
+    ((pitches-same (s .args .file .now) (s .pre .1 .0 .5) (at-read-track .read-track .ensures) (at-pitch .before .before .before .read-take .ensures), omega (arith, at-pitch .pitch .given, s .pre)), s .pre .1 .1)
 
 same-length : tie.Need-same-length
 same-length c = search needs
@@ -42,7 +44,11 @@ same-length-7 : tie.Need-same-length-7
 same-length-7 c = search needs
 
 returns : tie.Need-returns
-returns c = relisted (ap (λ (t : FileTake). textOf (unsampled t)) (c .before .before .before .before .before .before .before .before .before .before .before .before .before .before .before .before .before .before .before .before .before .before .read-take .ensures)) (c .before .before .before .before .with-lists .ensures)
+returns c =
+    relisted
+    (ap (λ (t : FileTake). textOf (unsampled t))
+    (c .before .before .before .before .before .before .before .before .before .before .before .before .before .before .before .before .before .before .before .before .before .before .read-take .ensures))
+    (c .before .before .before .before .with-lists .ensures)
 
 pub on-tracks-spec : {M : Type 1} → statement M
 on-tracks-spec =

@@ -38,13 +38,22 @@ slice-aggregate-listing : tie.Need-slice-aggregate-listing
 slice-aggregate-listing c = sym (length-take-le _ _ (omega (arith, c .before .before .before .before .smaller .ensures)))
 
 slice-aggregate-listing-2 : tie.Need-slice-aggregate-listing-2
-slice-aggregate-listing-2 c = sym (length-take-le _ _ (omega (arith, c .before .before .before .before .before .smaller .ensures, c .before .before .before .before .before .before .before .before .before .before .before .before .before .before .before .before .pre .0 .1 .strengths)))
+slice-aggregate-listing-2 c =
+    sym
+    (length-take-le _ _
+    (omega (
+      arith,
+      c .before .before .before .before .before .smaller .ensures,
+      c .before .before .before .before .before .before .before .before .before .before .before .before .before .before .before .before .pre .0 .1 .strengths,
+    )))
 
 slice-aggregate-listing-3 : tie.Need-slice-aggregate-listing-3
 slice-aggregate-listing-3 c = sym (length-take-le _ _ (omega (arith, c .before .before .before .before .before .smaller2 .ensures)))
 
 slice-aggregate-listing-4 : tie.Need-slice-aggregate-listing-4
-slice-aggregate-listing-4 c = sym (length-take-le _ _ (omega (arith, c .before .before .before .before .before .before .smaller2 .ensures, c .before .before .before .before .before .before .before .before .before .before .before .before .before .before .before .before .before .before .pre .0 .1 .xstrengths)))
+slice-aggregate-listing-4 c =
+    let at-smaller2 = c .before .before .before .before .before .before in
+    sym (length-take-le _ _ (omega (arith, at-smaller2 .smaller2 .ensures, at-smaller2 .before .before .before .before .before .before .before .before .before .before .before .before .pre .0 .1 .xstrengths)))
 
 slice-aggregate-listing-5 : tie.Need-slice-aggregate-listing-5
 slice-aggregate-listing-5 c = sym (length-take-le _ _ (omega (arith, c .before .before .before .before .before .before .smaller3 .ensures)))
@@ -54,22 +63,41 @@ slice-aggregate-listing-6 c = sym (length-take-le _ _ (omega (arith, c .before .
 
 listing-requires : tie.Need-listing-requires
 listing-requires c κs =
-    let a = c .before .before .before .before .before .before .before .before .before .before .before .before .before .before .before .before .before .before .before .before .before .args in
+    let at-smaller4 = c .before .before .before .before .before .before .before in
+    let at-smaller2 = at-smaller4 .before .before in
+    let start = at-smaller2 .before .before .before .before .before .before .before .before .before .before .before .before in
+    let a = start .args in
     let o = shows (a .m) (a .left .now) (a .frames .now) (a .strengths .now) (a .xframes .now) (a .xstrengths .now) (a .edges .now) (a .bounds .now) in
-    let p = c .before .before .before .before .before .before .before .before .before .before .before .before .before .before .before .before .before .before .before .before .before .pre .0 in
-    ((p .0, p .1 .few, same (a .frames .now) (a .strengths .now) (c .before .before .before .before .before .before .before .before .before .before .smaller .result) (p .1 .strengths), same (a .xframes .now) (a .xstrengths .now) (c .before .before .before .before .before .before .before .before .before .smaller2 .result) (p .1 .xstrengths)), le-trans (front-fits (a .given .now) o (p .1) (c .before .before .before .before .before .before .before .before .before .before .smaller .result) (c .before .before .before .before .before .before .before .before .before .smaller2 .result) (c .before .before .before .before .before .before .before .before .smaller3 .result) (c .before .before .before .before .before .before .before .smaller4 .result)) (c .before .before .before .before .before .before .before .before .before .before .before .before .before .before .before .before .before .before .before .before .before .pre .1))
+    let p = start .pre .0 in (
+      (
+        p .0,
+        p .1 .few,
+        same (a .frames .now) (a .strengths .now) (at-smaller2 .before .smaller .result) (p .1 .strengths),
+        same (a .xframes .now) (a .xstrengths .now) (at-smaller2 .smaller2 .result) (p .1 .xstrengths),
+      ),
+      le-trans
+          (front-fits (a .given .now) o (p .1) (at-smaller2 .before .smaller .result) (at-smaller2 .smaller2 .result)
+          (at-smaller4 .before .smaller3 .result) (at-smaller4 .smaller4 .result)) (start .pre .1),
+    )
 
 same-length : tie.Need-same-length
 same-length c = search needs
 
 returns : tie.Need-returns
 returns c =
-    let a = c .before .before .before .before .before .before .before .before .before .before .before .before .before .before .before .before .before .before .before .before .before .before .before .before .args in
+    let at-smaller4 = c .before .before .before .before .before .before .before .before .before .before in
+    let start = at-smaller4 .before .before .before .before .before .before .before .before .before .before .before .before .before .before in
+    let a = start .args in
     let o = shows (a .m) (a .left .now) (a .frames .now) (a .strengths .now) (a .xframes .now) (a .xstrengths .now) (a .edges .now) (a .bounds .now) in
-    relisted (front-shown (a .given .now) o (c .before .before .before .before .before .before .before .before .before .before .before .before .before .before .before .before .before .before .before .before .before .before .before .before .pre .0 .1) (c .before .before .before .before .before .before .before .before .before .before .before .before .before .before .if1 .taken) (c .before .before .before .before .before .before .before .before .before .before .before .before .before .smaller .ensures) (c .before .before .before .before .before .before .before .before .before .before .before .before .smaller2 .ensures) (c .before .before .before .before .before .before .before .before .before .before .before .smaller3 .ensures) (c .before .before .before .before .before .before .before .before .before .before .smaller4 .ensures)) (c .before .before .listing .ensures)
+    relisted
+    (front-shown (a .given .now) o (start .pre .0 .1) (at-smaller4 .before .before .before .before .if1 .taken)
+    (at-smaller4 .before .before .before .smaller .ensures) (at-smaller4 .before .before .smaller2 .ensures)
+    (at-smaller4 .before .smaller3 .ensures) (at-smaller4 .smaller4 .ensures)) (c .before .before .listing .ensures)
 
 refused-requires : tie.Need-refused-requires
-refused-requires c κs = omega (arith, refused-fits (c .before .before .before .before .before .before .before .before .before .before .before .args .m .refusal), c .before .before .before .before .before .before .before .before .before .before .before .pre .1)
+refused-requires c κs =
+    let start = c .before .before .before .before .before .before .before .before .before .before .before in
+    omega (arith, refused-fits (start .args .m .refusal), start .pre .1)
 
 same-length-2 : tie.Need-same-length-2
 same-length-2 c = search needs

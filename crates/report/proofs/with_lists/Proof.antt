@@ -76,16 +76,17 @@ slice-aggregate-list-marks-6 c = sym (length-take-le _ _ (omega (arith, c .befor
 
 list-marks-requires : tie.Need-list-marks-requires
 list-marks-requires c κs =
-    let s = c .before .before .before .before .before .before .before .before .before .before .before .before .before .before .before .before .before .before .before .before .before in
+    let at-blank-bounds = c .before .before .before .before .before .before .before .before in
+    let s = at-blank-bounds .before .before .before .before .before .before .before .before .before .before .before .before .before in
     let a = s .args in
     let p = s .pre .0 in
     let t = given (a .db .now) (a .pitch .now) (a .voiced .now) (a .sonority .now) (a .vowel .now) (a .p) in
-    let f = c .before .before .before .before .before .before .before .before .before .before .before .before .before .blank-list in
-    let g = c .before .before .before .before .before .before .before .before .before .before .before .before .blank-track in
-    let x = c .before .before .before .before .before .before .before .before .before .before .before .blank-list2 in
-    let y = c .before .before .before .before .before .before .before .before .before .before .blank-track2 in
-    let e = c .before .before .before .before .before .before .before .before .before .blank-list3 in
-    let b = c .before .before .before .before .before .before .before .before .blank-bounds in
+    let f = at-blank-bounds .before .before .before .before .before .blank-list in
+    let g = at-blank-bounds .before .before .before .before .blank-track in
+    let x = at-blank-bounds .before .before .before .blank-list2 in
+    let y = at-blank-bounds .before .before .blank-track2 in
+    let e = at-blank-bounds .before .blank-list3 in
+    let b = at-blank-bounds .blank-bounds in
     ((ap length (p .0), parts-room t (p .1) (f .result) (g .result) (x .result) (y .result) (e .result) (b .result) (f .ensures) (g .ensures) (x .ensures) (y .ensures) (e .ensures) (b .ensures)), s .pre .1)
 
 same-length : tie.Need-same-length
@@ -96,17 +97,19 @@ same-length-2 c = search needs
 
 returns : tie.Need-returns
 returns c =
-    let s = c .before .before .before .before .before .before .before .before .before .before .before .before .before .before .before .before .before .before .before .before .before .before .before .before .before .before .before .before .before .before .before .before in
+    let at-list-marks = c .before .before .before .before .before .before .before .before .before .before in
+    let at-blank-bounds = at-list-marks .before .before .before .before .before .before .before .before .before in
+    let s = at-blank-bounds .before .before .before .before .before .before .before .before .before .before .before .before .before in
     let a = s .args in
     let p = s .pre .0 in
     let t = given (a .db .now) (a .pitch .now) (a .voiced .now) (a .sonority .now) (a .vowel .now) (a .p) in
-    let f = c .before .before .before .before .before .before .before .before .before .before .before .before .before .before .before .before .before .before .before .before .before .before .before .before .blank-list in
-    let g = c .before .before .before .before .before .before .before .before .before .before .before .before .before .before .before .before .before .before .before .before .before .before .before .blank-track in
-    let x = c .before .before .before .before .before .before .before .before .before .before .before .before .before .before .before .before .before .before .before .before .before .before .blank-list2 in
-    let y = c .before .before .before .before .before .before .before .before .before .before .before .before .before .before .before .before .before .before .before .before .before .blank-track2 in
-    let e = c .before .before .before .before .before .before .before .before .before .before .before .before .before .before .before .before .before .before .before .before .blank-list3 in
-    let b = c .before .before .before .before .before .before .before .before .before .before .before .before .before .before .before .before .before .before .before .blank-bounds in
-    relisted (parts-text t (p .1) (f .result) (g .result) (x .result) (y .result) (e .result) (b .result) (f .ensures) (g .ensures) (x .ensures) (y .ensures) (e .ensures) (b .ensures) (p .0)) (c .before .before .before .before .before .before .before .before .before .before .list-marks .ensures)
+    let f = at-blank-bounds .before .before .before .before .before .blank-list in
+    let g = at-blank-bounds .before .before .before .before .blank-track in
+    let x = at-blank-bounds .before .before .before .blank-list2 in
+    let y = at-blank-bounds .before .before .blank-track2 in
+    let e = at-blank-bounds .before .blank-list3 in
+    let b = at-blank-bounds .blank-bounds in
+    relisted (parts-text t (p .1) (f .result) (g .result) (x .result) (y .result) (e .result) (b .result) (f .ensures) (g .ensures) (x .ensures) (y .ensures) (e .ensures) (b .ensures) (p .0)) (at-list-marks .list-marks .ensures)
 
 pub with-lists-spec : {M : Type 1} → statement M
 with-lists-spec =

@@ -66,8 +66,24 @@ slice-aggregate-on-tracks-6 c = sym (length-take-le _ _ (omega (arith, c .before
 
 on-tracks-requires : tie.Need-on-tracks-requires
 on-tracks-requires c κs =
-    let e = c .before .before .before .before .before .before .before .before .before .before .before .before .before .frames-in .ensures .0 in
-    (c .before .before .before .before .before .before .before .before .before .before .before .before .before .before .before .before .pre .0, ((part-length (c .before .before .before .before .before .before .before .before .before .before .before .blank-track2 .result) _ _ 2048 (c .before .before .before .before .before .before .before .before .before .before .before .blank-track2 .ensures) e (c .before .before .before .before .before .before .before .before .before .before .before .before .before .before .before .before .pre .0 .0), part-length (c .before .before .before .before .before .before .before .before .before .before .blank-track3 .result) _ _ 2048 (c .before .before .before .before .before .before .before .before .before .before .blank-track3 .ensures) e (c .before .before .before .before .before .before .before .before .before .before .before .before .before .before .before .before .pre .0 .0), part-length (c .before .before .before .before .before .before .before .before .before .blank-track4 .result) _ _ 2048 (c .before .before .before .before .before .before .before .before .before .blank-track4 .ensures) e (c .before .before .before .before .before .before .before .before .before .before .before .before .before .before .before .before .pre .0 .0), part-length (c .before .before .before .before .before .before .before .before .blank-track5 .result) _ _ 2048 (c .before .before .before .before .before .before .before .before .blank-track5 .ensures) e (c .before .before .before .before .before .before .before .before .before .before .before .before .before .before .before .before .pre .0 .0), part-length (c .before .before .before .before .before .before .before .blank-marks .result) _ _ 2048 (c .before .before .before .before .before .before .before .blank-marks .ensures) e (c .before .before .before .before .before .before .before .before .before .before .before .before .before .before .before .before .pre .0 .0), part-length (c .before .before .before .before .before .before .before .before .before .before .before .before .blank-track .result) _ _ 2048 (c .before .before .before .before .before .before .before .before .before .before .before .before .blank-track .ensures) e (c .before .before .before .before .before .before .before .before .before .before .before .before .before .before .before .before .pre .0 .0)), c .before .before .before .before .before .before .before .before .before .before .before .before .before .before .before .before .pre .1))
+    let at-blank-marks = c .before .before .before .before .before .before .before in
+    let at-blank-track4 = at-blank-marks .before .before in
+    let at-blank-track2 = at-blank-track4 .before .before in
+    let start = at-blank-track2 .before .before .before .before .before in
+    let e = at-blank-track2 .before .before .frames-in .ensures .0 in (
+      start .pre .0,
+      (
+        (
+          part-length (at-blank-track2 .blank-track2 .result) _ _ 2048 (at-blank-track2 .blank-track2 .ensures) e (start .pre .0 .0),
+          part-length (at-blank-track4 .before .blank-track3 .result) _ _ 2048 (at-blank-track4 .before .blank-track3 .ensures) e (start .pre .0 .0),
+          part-length (at-blank-track4 .blank-track4 .result) _ _ 2048 (at-blank-track4 .blank-track4 .ensures) e (start .pre .0 .0),
+          part-length (at-blank-marks .before .blank-track5 .result) _ _ 2048 (at-blank-marks .before .blank-track5 .ensures) e (start .pre .0 .0),
+          part-length (at-blank-marks .blank-marks .result) _ _ 2048 (at-blank-marks .blank-marks .ensures) e (start .pre .0 .0),
+          part-length (at-blank-track2 .before .blank-track .result) _ _ 2048 (at-blank-track2 .before .blank-track .ensures) e (start .pre .0 .0),
+        ),
+        start .pre .1,
+      ),
+    )
 
 same-length : tie.Need-same-length
 same-length c = search needs

@@ -4,13 +4,13 @@ use Prim.Native.Nat.{ℕ, _+_, _-_, _≤_, max}
 use native.Mathlib.Omega.{arith}
 use borrow.Author.Needs.{needs}
 use lib.ListN.{length, drop}
-use Rattle.select.specs.Order.{highest}
-use Rattle.select.proofs.Walks.{highest-step, highest-end}
+use Rattle.select.specs.Order.{greatestOf}
+use Rattle.select.proofs.Walks.{greatest-step, greatest-end}
 use Rattle.select.proofs.greatest.Statement.{statement}
 use Rattle.select.proofs.greatest.Tie as tie
 
 abbrev Inv-loop : tie.InvT-loop
-Inv-loop keys b₀ i₀ b i = (i ≤ length keys) × (max b (highest (drop i keys)) ≡ highest keys)
+Inv-loop keys b₀ i₀ b i = (i ≤ length keys) × (max b (greatestOf (drop i keys)) ≡ greatestOf keys)
 
 abbrev μ-loop : tie.MeasureT-loop
 μ-loop keys b₀ i₀ b i = length keys - i
@@ -38,13 +38,13 @@ loop-again c =
     let l = c .before .before .before in
     let keys = l .before .before .args .keys .now in
     let v = l .loop in
-    (omega arith, ap (λ (m : ℕ). max m (highest (drop (v .i + 1) keys))) (c .larger-u32 .ensures) ∙ sym (highest-step keys (v .i) (c .before .before .loop-test .taken) (v .b)) ∙ v .inv .1)
+    (omega arith, ap (λ (m : ℕ). max m (greatestOf (drop (v .i + 1) keys))) (c .larger-u32 .ensures) ∙ sym (greatest-step keys (v .i) (c .before .before .loop-test .taken) (v .b)) ∙ v .inv .1)
 
 returns : tie.Need-returns Inv-loop μ-loop
 returns c =
     let keys = c .before .before .before .args .keys .now in
     let v = c .before .loop in
-    sym (highest-end keys (v .i) (c .loop-test .left) (v .b)) ∙ v .inv .1
+    sym (greatest-end keys (v .i) (c .loop-test .left) (v .b)) ∙ v .inv .1
 
 pub greatest-spec : {M : Type 1} → statement M
 greatest-spec = tie.close (tie.spec Inv-loop μ-loop loop-holds mul-larger-u32 shared-slice-read-larger-u32 larger-u32-requires add-i loop-less loop-again returns)

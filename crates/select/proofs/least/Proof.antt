@@ -4,20 +4,20 @@ use Prim.Native.Nat.{ℕ, _+_, _-_, _≤_, min}
 use native.Mathlib.Omega.{arith}
 use borrow.Author.Needs.{needs}
 use lib.ListN.{length, drop}
-use Rattle.select.specs.Order.{lowest}
-use Rattle.select.proofs.Ranks.{lowest-small}
-use Rattle.select.proofs.Walks.{lowest-step, lowest-end}
+use Rattle.select.specs.Order.{leastOf}
+use Rattle.select.proofs.Ranks.{least-small}
+use Rattle.select.proofs.Walks.{least-step, least-end}
 use Rattle.select.proofs.least.Statement.{statement}
 use Rattle.select.proofs.least.Tie as tie
 
 abbrev Inv-loop : tie.InvT-loop
-Inv-loop keys b₀ i₀ b i = (i ≤ length keys) × (b ≤ 4294967295) × (min b (lowest (drop i keys)) ≡ lowest keys)
+Inv-loop keys b₀ i₀ b i = (i ≤ length keys) × (b ≤ 4294967295) × (min b (leastOf (drop i keys)) ≡ leastOf keys)
 
 abbrev μ-loop : tie.MeasureT-loop
 μ-loop keys b₀ i₀ b i = length keys - i
 
 loop-holds : tie.Need-loop-holds Inv-loop μ-loop
-loop-holds c = (omega arith, omega arith, omega (arith, lowest-small (c .before .args .keys .now)))
+loop-holds c = (omega arith, omega arith, omega (arith, least-small (c .before .args .keys .now)))
 
 mul-smaller-u32 : tie.Need-mul-smaller-u32 Inv-loop μ-loop
 mul-smaller-u32 c = search needs
@@ -39,13 +39,13 @@ loop-again c =
     let l = c .before .before .before in
     let keys = l .before .before .args .keys .now in
     let v = l .loop in
-    (omega arith, omega arith, ap (λ (m : ℕ). min m (lowest (drop (v .i + 1) keys))) (c .smaller-u32 .ensures) ∙ sym (lowest-step keys (v .i) (c .before .before .loop-test .taken) (v .b)) ∙ v .inv .2)
+    (omega arith, omega arith, ap (λ (m : ℕ). min m (leastOf (drop (v .i + 1) keys))) (c .smaller-u32 .ensures) ∙ sym (least-step keys (v .i) (c .before .before .loop-test .taken) (v .b)) ∙ v .inv .2)
 
 returns : tie.Need-returns Inv-loop μ-loop
 returns c =
     let keys = c .before .before .before .args .keys .now in
     let v = c .before .loop in
-    sym (lowest-end keys (v .i) (c .loop-test .left) (v .b) (omega arith)) ∙ v .inv .2
+    sym (least-end keys (v .i) (c .loop-test .left) (v .b) (omega arith)) ∙ v .inv .2
 
 pub least-spec : {M : Type 1} → statement M
 least-spec = tie.close (tie.spec Inv-loop μ-loop loop-holds mul-smaller-u32 shared-slice-read-smaller-u32 smaller-u32-requires add-i loop-less loop-again returns)

@@ -6,20 +6,20 @@ use borrow.Author.Needs.{needs}
 use lib.Dec.{ltb}
 use lib.ListN.{length, drop}
 use Rattle.lists.specs.Results.{filter}
-use Rattle.select.specs.Order.{lowestAbove}
-use Rattle.select.proofs.Ranks.{lowest-small}
+use Rattle.select.specs.Order.{leastAbove}
+use Rattle.select.proofs.Ranks.{least-small}
 use Rattle.select.proofs.Walks.{above-step, above-end}
 use Rattle.select.proofs.least_over.Statement.{statement}
 use Rattle.select.proofs.least_over.Tie as tie
 
 abbrev Inv-loop : tie.InvT-loop
-Inv-loop keys x b₀ i₀ b i = (i ≤ length keys) × (b ≤ 4294967295) × (min b (lowestAbove x (drop i keys)) ≡ lowestAbove x keys)
+Inv-loop keys x b₀ i₀ b i = (i ≤ length keys) × (b ≤ 4294967295) × (min b (leastAbove x (drop i keys)) ≡ leastAbove x keys)
 
 abbrev μ-loop : tie.MeasureT-loop
 μ-loop keys x b₀ i₀ b i = length keys - i
 
 loop-holds : tie.Need-loop-holds Inv-loop μ-loop
-loop-holds c = let s = c .before .args in (omega arith, omega arith, omega (arith, lowest-small (filter (ltb (s .x)) (s .keys .now))))
+loop-holds c = let s = c .before .args in (omega arith, omega arith, omega (arith, least-small (filter (ltb (s .x)) (s .keys .now))))
 
 mul-over : tie.Need-mul-over Inv-loop μ-loop
 mul-over c = search needs
@@ -44,7 +44,7 @@ loop-again c =
     let l = c .before .before .before .before in
     let s = l .before .before .args in
     let v = l .loop in
-    let rest = lowestAbove (s .x) (drop (v .i + 1) (s .keys .now)) in (
+    let rest = leastAbove (s .x) (drop (v .i + 1) (s .keys .now)) in (
       omega arith,
       omega arith,
       ap (λ (m : ℕ). min m rest) (c .smaller-u32 .ensures ∙ ap (λ (k : ℕ). min k (v .b)) (c .before .over .ensures))

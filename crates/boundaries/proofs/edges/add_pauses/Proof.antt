@@ -29,15 +29,29 @@ slice-aggregate-add-sorted-2 c = search needs
 
 add-sorted-requires : tie.Need-add-sorted-requires
 add-sorted-requires c κs =
-    let args = c .before .before .before .before .before .before .before .before .before .args in
-    let pre = c .before .before .before .before .before .before .before .before .before .pre in
-    (omega (arith, listed-count (c .before .before .before .before .before .pause-keys .ensures), listed-fits (c .before .before .before .before .before .pause-keys .ensures), c .before .before .before .before .before .pause-keys .kept, c .before .before .before .before .before .before .before .blank-keys .ensures, c .before .before .before .blank-keys2 .ensures), turn-fits (pauses-keyed (args .db .now) (args .b .threshold) (args .b .start) (args .b .end) (omega (arith, pre .1, pre .2))) (c .before .before .before .before .before .pause-keys .ensures))
+    let at-pause-keys = c .before .before .before .before .before in
+    let start = at-pause-keys .before .before .before .before in
+    let args = start .args in
+    let pre = start .pre in (
+      omega (
+        arith,
+        listed-count (at-pause-keys .pause-keys .ensures),
+        listed-fits (at-pause-keys .pause-keys .ensures),
+        at-pause-keys .pause-keys .kept,
+        at-pause-keys .before .before .blank-keys .ensures,
+        c .before .before .before .blank-keys2 .ensures,
+      ),
+      turn-fits (pauses-keyed (args .db .now) (args .b .threshold) (args .b .start) (args .b .end) (omega (arith, pre .1, pre .2)))
+          (at-pause-keys .pause-keys .ensures),
+    )
 
 returns : tie.Need-returns
 returns c =
-    let args = c .before .before .before .before .before .before .before .before .before .before .before .before .args in
-    let pre = c .before .before .before .before .before .before .before .before .before .before .before .before .pre in
-    turn-added (pauses-keyed (args .db .now) (args .b .threshold) (args .b .start) (args .b .end) (omega (arith, pre .1, pre .2))) (c .before .before .before .before .before .before .before .before .pause-keys .ensures) (c .before .before .add-sorted .ensures)
+    let at-pause-keys = c .before .before .before .before .before .before .before .before in
+    let start = at-pause-keys .before .before .before .before in
+    let args = start .args in
+    let pre = start .pre in
+    turn-added (pauses-keyed (args .db .now) (args .b .threshold) (args .b .start) (args .b .end) (omega (arith, pre .1, pre .2))) (at-pause-keys .pause-keys .ensures) (c .before .before .add-sorted .ensures)
 
 pub add-pauses-spec : {M : Type 1} → statement M
 add-pauses-spec =

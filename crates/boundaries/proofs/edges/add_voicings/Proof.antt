@@ -30,15 +30,32 @@ slice-aggregate-add-sorted-2 c = search needs
 
 add-sorted-requires : tie.Need-add-sorted-requires
 add-sorted-requires c κs =
-    let args = c .before .before .before .before .before .before .before .before .before .before .args in
-    let pre = c .before .before .before .before .before .before .before .before .before .before .pre in
-    (omega (arith, listed-count (c .before .before .before .before .before .voicing-keys .ensures), listed-fits (c .before .before .before .before .before .voicing-keys .ensures), c .before .before .before .before .before .voicing-keys .kept, c .before .before .before .before .before .before .before .blank-keys .ensures, c .before .before .before .blank-keys2 .ensures), turn-fits (voicings-keyed (args .pitch .now) (args .voicing .now) (marked (args .skip .now)) (args .b .start) (args .b .end) (omega (arith, pre .1, pre .2))) (c .before .before .before .before .before .voicing-keys .ensures))
+    let at-voicing-keys = c .before .before .before .before .before in
+    let start = at-voicing-keys .before .before .before .before .before in
+    let args = start .args in
+    let pre = start .pre in (
+      omega (
+        arith,
+        listed-count (at-voicing-keys .voicing-keys .ensures),
+        listed-fits (at-voicing-keys .voicing-keys .ensures),
+        at-voicing-keys .voicing-keys .kept,
+        at-voicing-keys .before .before .blank-keys .ensures,
+        c .before .before .before .blank-keys2 .ensures,
+      ),
+      turn-fits
+          (voicings-keyed (args .pitch .now) (args .voicing .now) (marked (args .skip .now)) (args .b .start) (args .b .end)
+          (omega (arith, pre .1, pre .2))) (at-voicing-keys .voicing-keys .ensures),
+    )
 
 returns : tie.Need-returns
 returns c =
-    let args = c .before .before .before .before .before .before .before .before .before .before .before .before .before .args in
-    let pre = c .before .before .before .before .before .before .before .before .before .before .before .before .before .pre in
-    turn-added (voicings-keyed (args .pitch .now) (args .voicing .now) (marked (args .skip .now)) (args .b .start) (args .b .end) (omega (arith, pre .1, pre .2))) (c .before .before .before .before .before .before .before .before .voicing-keys .ensures) (c .before .before .add-sorted .ensures)
+    let at-voicing-keys = c .before .before .before .before .before .before .before .before in
+    let start = at-voicing-keys .before .before .before .before .before in
+    let args = start .args in
+    let pre = start .pre in
+    turn-added
+    (voicings-keyed (args .pitch .now) (args .voicing .now) (marked (args .skip .now)) (args .b .start) (args .b .end)
+    (omega (arith, pre .1, pre .2))) (at-voicing-keys .voicing-keys .ensures) (c .before .before .add-sorted .ensures)
 
 pub add-voicings-spec : {M : Type 1} → statement M
 add-voicings-spec =

@@ -28,13 +28,16 @@ slice-aggregate-mark-creaks-2 c = listed-count (c .before .before .before .befor
 
 mark-creaks-requires : tie.Need-mark-creaks-requires
 mark-creaks-requires c κs =
-    let args = c .before .before .before .before .before .before .before .before .before .before .args in
-    (dropouts-many (args .pitch .now) (c .before .before .before .before .before .dropouts .ensures), dropouts-below (args .pitch .now) (c .before .before .before .before .before .dropouts .ensures) (c .before .before .before .before .before .before .before .before .before .before .pre))
+    let at-dropouts = c .before .before .before .before .before in
+    let start = at-dropouts .before .before .before .before .before in
+    let args = start .args in
+    (dropouts-many (args .pitch .now) (at-dropouts .dropouts .ensures), dropouts-below (args .pitch .now) (at-dropouts .dropouts .ensures) (start .pre))
 
 returns : tie.Need-returns
 returns c =
-    let args = c .before .before .before .before .before .before .before .before .before .before .before .args in
-    dropouts-spread (args .pitch .now) (c .before .before .before .before .before .before .dropouts .ensures) (args .db .now) (args .threshold) (c .mark-creaks .ensures)
+    let at-dropouts = c .before .before .before .before .before .before in
+    let args = at-dropouts .before .before .before .before .before .args in
+    dropouts-spread (args .pitch .now) (at-dropouts .dropouts .ensures) (args .db .now) (args .threshold) (c .mark-creaks .ensures)
 
 pub creak-marks-spec : {M : Type 1} → statement M
 creak-marks-spec =

@@ -13,7 +13,9 @@ use Rattle.boundaries.proofs.edges.mark_creaks.Statement.{statement}
 use Rattle.boundaries.proofs.edges.mark_creaks.Tie as tie
 
 abbrev Inv-loop : tie.InvT-loop
-Inv-loop db threshold before after marks₀ i₀ marks i = (i ≤ length before) × Spreading (inCreak (filter (filled (speechAt threshold db)) (spans before after))) (inCreak (filter (filled (speechAt threshold db)) (spans (drop i before) (drop i after)))) marks₀ marks
+Inv-loop db threshold before after marks₀ i₀ marks i =
+    (i ≤ length before) × Spreading (inCreak (filter (filled (speechAt threshold db)) (spans before after)))
+    (inCreak (filter (filled (speechAt threshold db)) (spans (drop i before) (drop i after)))) marks₀ marks
 
 abbrev μ-loop : tie.MeasureT-loop
 μ-loop db threshold before after marks₀ i₀ marks i = length before - i
@@ -35,8 +37,9 @@ shared-slice-read-mark-creak-2 c = search needs
 
 mark-creak-requires : tie.Need-mark-creak-requires Inv-loop μ-loop
 mark-creak-requires c κs =
-    let pre = c .before .before .before .before .before .before .before .before .pre in
-    each-at (λ z. z < 2048) (c .before .before .before .before .before .before .before .before .args .after .now) 0 (pre .1) (c .before .before .before .before .loop .i) (omega (arith, pre .0, c .before .before .before .loop-test .taken))
+    let start = c .before .before .before .before .before .before .before .before in
+    let pre = start .pre in
+    each-at (λ z. z < 2048) (start .args .after .now) 0 (pre .1) (c .before .before .before .before .loop .i) (omega (arith, pre .0, c .before .before .before .loop-test .taken))
 
 add-i : tie.Need-add-i Inv-loop μ-loop
 add-i c = search needs
@@ -46,12 +49,13 @@ loop-less c = search needs
 
 loop-again : tie.Need-loop-again Inv-loop μ-loop
 loop-again c =
-    let args = c .before .before .before .before .before .before .before .before .before .args in
+    let start = c .before .before .before .before .before .before .before .before .before in
+    let args = start .args in
     let loop = c .before .before .before .before .before .loop in
     let test = c .before .before .before .before .loop-test in (
       omega (arith, test .taken),
       spreading-on (inCreak (filter (filled (speechAt (args .threshold) (args .db .now))) (spans (drop (loop .i + 1) (args .before .now)) (drop (loop .i + 1) (args .after .now)))))
-          (creaks-on (speechAt (args .threshold) (args .db .now)) (args .before .now) (args .after .now) (loop .i) (test .taken) (omega (arith, c .before .before .before .before .before .before .before .before .before .pre .0, test .taken)))
+          (creaks-on (speechAt (args .threshold) (args .db .now)) (args .before .now) (args .after .now) (loop .i) (test .taken) (omega (arith, start .pre .0, test .taken)))
           (c .mark-creak .ensures) (loop .inv .1),
     )
 

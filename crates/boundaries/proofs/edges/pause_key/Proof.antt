@@ -40,7 +40,10 @@ key-of-requires : tie.Need-key-of-requires
 key-of-requires c κs = search needs
 
 returns : tie.Need-returns
-returns c = c .key-of .ensures ∙ key-same _ _ _ _ (c .before .loud-beside .ensures .0) (c .before .before .jump-of .ensures ∙ jump-same _ _ _ _ (c .before .before .before .before .before .or-zero .ensures) (c .before .before .before .or-zero2 .ensures))
+returns c =
+    c .key-of .ensures ∙ key-same _ _ _ _ (c .before .loud-beside .ensures .0)
+    (c .before .before .jump-of .ensures ∙ jump-same _ _ _ _ (c .before .before .before .before .before .or-zero .ensures)
+    (c .before .before .before .or-zero2 .ensures))
 
 pub pause-key-spec : {M : Type 1} → statement M
 pause-key-spec =

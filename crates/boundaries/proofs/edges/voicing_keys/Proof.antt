@@ -37,17 +37,32 @@ voicing-key-requires c κs = search needs
 mul-out : tie.Need-mul-out Inv-loop μ-loop
 mul-out c =
     let args = c .before .before .before .before .before .before .before .before .args in
-    omega (arith, fill-fits (walk-yes (voicingHere (args .pitch .now) (marked (args .skip .now))) (voicingKey (args .voicing .now)) (args .end) (c .before .before .before .loop-test .taken) (sym (c .before .before .voicing-changes .ensures) ∙ c .before .if1 .taken) (c .before .before .before .before .loop .inv .1)))
+    omega (
+      arith,
+      fill-fits
+          (walk-yes (voicingHere (args .pitch .now) (marked (args .skip .now))) (voicingKey (args .voicing .now)) (args .end)
+          (c .before .before .before .loop-test .taken) (sym (c .before .before .voicing-changes .ensures) ∙ c .before .if1 .taken)
+          (c .before .before .before .before .loop .inv .1)),
+    )
 
 slice-write-out : tie.Need-slice-write-out Inv-loop μ-loop
 slice-write-out c =
     let args = c .before .before .before .before .before .before .before .before .args in
-    fill-fits (walk-yes (voicingHere (args .pitch .now) (marked (args .skip .now))) (voicingKey (args .voicing .now)) (args .end) (c .before .before .before .loop-test .taken) (sym (c .before .before .voicing-changes .ensures) ∙ c .before .if1 .taken) (c .before .before .before .before .loop .inv .1)) .0
+    fill-fits
+    (walk-yes (voicingHere (args .pitch .now) (marked (args .skip .now))) (voicingKey (args .voicing .now)) (args .end)
+    (c .before .before .before .loop-test .taken) (sym (c .before .before .voicing-changes .ensures) ∙ c .before .if1 .taken)
+    (c .before .before .before .before .loop .inv .1)) .0
 
 add-n : tie.Need-add-n Inv-loop μ-loop
 add-n c =
     let args = c .before .before .before .before .before .before .before .before .args in
-    omega (arith, fill-fits (walk-yes (voicingHere (args .pitch .now) (marked (args .skip .now))) (voicingKey (args .voicing .now)) (args .end) (c .before .before .before .loop-test .taken) (sym (c .before .before .voicing-changes .ensures) ∙ c .before .if1 .taken) (c .before .before .before .before .loop .inv .1)))
+    omega (
+      arith,
+      fill-fits
+          (walk-yes (voicingHere (args .pitch .now) (marked (args .skip .now))) (voicingKey (args .voicing .now)) (args .end)
+          (c .before .before .before .loop-test .taken) (sym (c .before .before .voicing-changes .ensures) ∙ c .before .if1 .taken)
+          (c .before .before .before .before .loop .inv .1)),
+    )
 
 add-i-2 : tie.Need-add-i-2 Inv-loop μ-loop
 add-i-2 c = search needs
@@ -62,7 +77,10 @@ loop-again c =
     let test = c .before .before .loop-test in (
       omega (arith, loop .inv .0),
       ⊎-elim
-          (λ w. rw (w .2, w .3, w .1 .ensures) (fill-push (walk-yes (voicingHere (args .pitch .now) (marked (args .skip .now))) (voicingKey (args .voicing .now)) (args .end) (test .taken) (sym (c .before .voicing-changes .ensures) ∙ w .0 .taken) (loop .inv .1))))
+          (λ w. rw (w .2, w .3, w .1 .ensures)
+          (fill-push
+          (walk-yes (voicingHere (args .pitch .now) (marked (args .skip .now))) (voicingKey (args .voicing .now)) (args .end) (test .taken)
+          (sym (c .before .voicing-changes .ensures) ∙ w .0 .taken) (loop .inv .1))))
           (λ w. rw (w .1, w .2) (walk-no (voicingHere (args .pitch .now) (marked (args .skip .now))) (voicingKey (args .voicing .now)) (args .end) (test .taken) (sym (c .before .voicing-changes .ensures) ∙ w .0 .left) (loop .inv .1)))
           (c .if1 .came),
     )

@@ -31,10 +31,13 @@ slice-aggregate-add-joints-over-2 c = listed-count (c .before .before .before .b
 
 add-joints-over-requires : tie.Need-add-joints-over-requires
 add-joints-over-requires c κs =
-    ((c .before .before .before .before .before .before .before .before .before .before .before .pre .0, c .before .before .before .before .before .before .before .before .before .before .before .pre .1, c .before .before .before .before .before .before .before .before .before .before .before .pre .2), runs-ready (c .before .before .before .before .before .before .before .before .before .before .before .args .pitch .now) (length (c .before .before .before .before .before .before .before .before .before .before .before .args .level .now)) (c .before .before .before .before .before .before .before .before .before .before .before .pre .3) (c .before .before .before .before .before .before .before .before .before .before .before .pre .1) (c .before .before .before .before .before .syllable-runs .ensures))
+    let start = c .before .before .before .before .before .before .before .before .before .before .before in
+    ((start .pre .0, start .pre .1, start .pre .2), runs-ready (start .args .pitch .now) (length (start .args .level .now)) (start .pre .3) (start .pre .1) (c .before .before .before .before .before .syllable-runs .ensures))
 
 returns : tie.Need-returns
-returns c = rw (written (syllableRuns (c .before .before .before .before .before .before .before .before .before .before .before .before .args .pitch .now)) (c .before .before .before .before .before .before .syllable-runs .ensures) .runs) at (c .add-joints-over .ensures)
+returns c =
+    let at-syllable-runs = c .before .before .before .before .before .before in
+    rw (written (syllableRuns (at-syllable-runs .before .before .before .before .before .before .args .pitch .now)) (at-syllable-runs .syllable-runs .ensures) .runs) at (c .add-joints-over .ensures)
 
 pub add-joints-spec : {M : Type 1} → statement M
 add-joints-spec =

@@ -11,7 +11,9 @@ use Rattle.boundaries.proofs.joints.add_joints_over.Statement.{statemen
 use Rattle.boundaries.proofs.joints.add_joints_over.Tie as tie
 
 abbrev Inv-loop : tie.InvT-loop
-Inv-loop level first last dip nuclei b taken₀ count cap n₀ i₀ taken n i = (i ≤ length nuclei) × Trying cap (jointsInside level (spans first last) dip (b .start) (b .end) nuclei) (jointsInside level (spans first last) dip (b .start) (b .end) (drop i nuclei)) taken₀ count taken n
+Inv-loop level first last dip nuclei b taken₀ count cap n₀ i₀ taken n i =
+    (i ≤ length nuclei) × Trying cap (jointsInside level (spans first last) dip (b .start) (b .end) nuclei)
+    (jointsInside level (spans first last) dip (b .start) (b .end) (drop i nuclei)) taken₀ count taken n
 
 abbrev μ-loop : tie.MeasureT-loop
 μ-loop level first last dip nuclei b taken₀ count cap n₀ i₀ taken n i = length nuclei - i
@@ -39,8 +41,9 @@ shared-slice-read-joint-of-2 c = search needs
 
 joint-of-requires : tie.Need-joint-of-requires Inv-loop μ-loop
 joint-of-requires c κs =
-    let args = c .before .before .before .before .before .before .before .before .args in
-    let pre = c .before .before .before .before .before .before .before .before .pre in
+    let start = c .before .before .before .before .before .before .before .before in
+    let args = start .args in
+    let pre = start .pre in
     let loop = c .before .before .before .loop in
     let test = c .before .before .loop-test in
     ((nuclei-at (length (args .level .now)) (args .nuclei .now) (loop .i) (pre .0 .2) (test .taken) .0, nuclei-at (length (args .level .now)) (args .nuclei .now) (loop .i) (pre .0 .2) (test .taken) .1, pre .0 .1), pre .1)

@@ -24,8 +24,9 @@ slice-aggregate-mark-long-spans c = listed-count (c .before .before .put-taken .
 
 mark-long-spans-requires : tie.Need-mark-long-spans-requires
 mark-long-spans-requires c κs =
-    let args = c .before .before .before .before .before .before .before .args in
-    frames-rise (args .taken .now) (length (args .level .now)) (c .before .before .before .before .before .before .before .pre) (c .before .before .before .put-taken .ensures)
+    let start = c .before .before .before .before .before .before .before in
+    let args = start .args in
+    frames-rise (args .taken .now) (length (args .level .now)) (start .pre) (c .before .before .before .put-taken .ensures)
 
 slice-aggregate-local-extrema : tie.Need-slice-aggregate-local-extrema
 slice-aggregate-local-extrema c = search needs
@@ -43,7 +44,10 @@ slice-aggregate-minima-keys-2 : tie.Need-slice-aggregate-minima-keys-2
 slice-aggregate-minima-keys-2 c = search needs
 
 minima-keys-requires : tie.Need-minima-keys-requires
-minima-keys-requires c κs = ((c .before .before .before .before .before .before .before .before .before .before .before .before .before .before .pre), omega (arith, listed-count (c .before .before .before .before .local-extrema .ensures), listed-fits (c .before .before .before .before .local-extrema .ensures)), mins-below (c .before .before .before .before .before .before .before .before .before .before .before .before .before .before .args .level .now) (c .before .before .before .before .local-extrema .ensures))
+minima-keys-requires c κs =
+    let at-local-extrema = c .before .before .before .before in
+    let start = at-local-extrema .before .before .before .before .before .before .before .before .before .before in
+    ((start .pre), omega (arith, listed-count (at-local-extrema .local-extrema .ensures), listed-fits (at-local-extrema .local-extrema .ensures)), mins-below (start .args .level .now) (at-local-extrema .local-extrema .ensures))
 
 array-borrow-prefix-keys : tie.Need-array-borrow-prefix-keys
 array-borrow-prefix-keys c = listed-fits (c .before .minima-keys .ensures)
@@ -56,13 +60,30 @@ slice-aggregate-add-sorted-2 c = search needs
 
 add-sorted-requires : tie.Need-add-sorted-requires
 add-sorted-requires c κs =
-    let args = c .before .before .before .before .before .before .before .before .before .before .before .before .before .before .before .before .before .before .before .args in
-    (omega (arith, listed-count (c .before .before .before .before .minima-keys .ensures), listed-fits (c .before .before .before .before .minima-keys .ensures)), turn-fits (minima-keyed (args .level .now) (marked (args .skip .now)) (takenFrames (args .taken .now) (length (args .level .now))) (c .before .before .before .before .before .before .before .before .before .before .before .before .before .before .before .before .before .before .before .pre)) (minima-listed (args .level .now) (marked (args .skip .now)) (args .taken .now) (c .before .before .before .before .before .before .before .before .before .before .before .before .before .before .before .put-taken .ensures) (c .before .before .before .before .before .before .before .before .before .before .before .mark-long-spans .ensures) (c .before .before .before .before .before .before .before .before .before .local-extrema .ensures) (c .before .before .before .before .minima-keys .ensures)))
+    let at-minima-keys = c .before .before .before .before in
+    let at-mark-long-spans = at-minima-keys .before .before .before .before .before .before .before in
+    let start = at-mark-long-spans .before .before .before .before .before .before .before .before in
+    let args = start .args in (
+      omega (arith, listed-count (at-minima-keys .minima-keys .ensures), listed-fits (at-minima-keys .minima-keys .ensures)),
+      turn-fits (minima-keyed (args .level .now) (marked (args .skip .now)) (takenFrames (args .taken .now) (length (args .level .now))) (start .pre))
+          (minima-listed (args .level .now) (marked (args .skip .now)) (args .taken .now)
+          (at-mark-long-spans .before .before .before .before .put-taken .ensures) (at-mark-long-spans .mark-long-spans .ensures)
+          (at-minima-keys .before .before .before .before .before .local-extrema .ensures) (at-minima-keys .minima-keys .ensures)),
+    )
 
 returns : tie.Need-returns
 returns c =
-    let args = c .before .before .before .before .before .before .before .before .before .before .before .before .before .before .before .before .before .before .before .before .before .before .args in
-    minima-added (args .level .now) (marked (args .skip .now)) (turn-added (minima-keyed (args .level .now) (marked (args .skip .now)) (takenFrames (args .taken .now) (length (args .level .now))) (c .before .before .before .before .before .before .before .before .before .before .before .before .before .before .before .before .before .before .before .before .before .before .pre)) (minima-listed (args .level .now) (marked (args .skip .now)) (args .taken .now) (c .before .before .before .before .before .before .before .before .before .before .before .before .before .before .before .before .before .before .put-taken .ensures) (c .before .before .before .before .before .before .before .before .before .before .before .before .before .before .mark-long-spans .ensures) (c .before .before .before .before .before .before .before .before .before .before .before .before .local-extrema .ensures) (c .before .before .before .before .before .before .before .minima-keys .ensures)) (c .before .before .add-sorted .ensures))
+    let at-minima-keys = c .before .before .before .before .before .before .before in
+    let at-mark-long-spans = at-minima-keys .before .before .before .before .before .before .before in
+    let start = at-mark-long-spans .before .before .before .before .before .before .before .before in
+    let args = start .args in
+    minima-added (args .level .now) (marked (args .skip .now))
+    (turn-added
+    (minima-keyed (args .level .now) (marked (args .skip .now)) (takenFrames (args .taken .now) (length (args .level .now))) (start .pre))
+    (minima-listed (args .level .now) (marked (args .skip .now)) (args .taken .now)
+    (at-mark-long-spans .before .before .before .before .put-taken .ensures) (at-mark-long-spans .mark-long-spans .ensures)
+    (at-minima-keys .before .before .before .before .before .local-extrema .ensures) (at-minima-keys .minima-keys .ensures))
+    (c .before .before .add-sorted .ensures))
 
 pub add-minima-spec : {M : Type 1} → statement M
 add-minima-spec =

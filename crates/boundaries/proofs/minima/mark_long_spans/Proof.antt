@@ -35,28 +35,33 @@ shared-slice-read-b c = search needs
 
 sub-if1 : tie.Need-sub-if1 Inv-loop μ-loop
 sub-if1 c =
+    let start = c .before .before .before .before .before in
     let loop = c .before .before .before .loop in
-    omega (arith, rise-at (c .before .before .before .before .before .args .kept .now) (c .before .before .before .before .before .pre) (loop .i) (loop .inv .0) (c .before .before .loop-test .taken))
+    omega (arith, rise-at (start .args .kept .now) (start .pre) (loop .i) (loop .inv .0) (c .before .before .loop-test .taken))
 
 cast-mark-frames : tie.Need-cast-mark-frames Inv-loop μ-loop
 cast-mark-frames c =
+    let start = c .before .before .before .before .before .before in
     let loop = c .before .before .before .before .loop in
-    omega (arith, rise-at (c .before .before .before .before .before .before .args .kept .now) (c .before .before .before .before .before .before .pre) (loop .i) (loop .inv .0) (c .before .before .before .loop-test .taken))
+    omega (arith, rise-at (start .args .kept .now) (start .pre) (loop .i) (loop .inv .0) (c .before .before .before .loop-test .taken))
 
 add-mark-frames : tie.Need-add-mark-frames Inv-loop μ-loop
 add-mark-frames c =
+    let start = c .before .before .before .before .before .before in
     let loop = c .before .before .before .before .loop in
-    omega (arith, rise-at (c .before .before .before .before .before .before .args .kept .now) (c .before .before .before .before .before .before .pre) (loop .i) (loop .inv .0) (c .before .before .before .loop-test .taken))
+    omega (arith, rise-at (start .args .kept .now) (start .pre) (loop .i) (loop .inv .0) (c .before .before .before .loop-test .taken))
 
 cast-mark-frames-2 : tie.Need-cast-mark-frames-2 Inv-loop μ-loop
 cast-mark-frames-2 c =
+    let start = c .before .before .before .before .before .before in
     let loop = c .before .before .before .before .loop in
-    omega (arith, rise-at (c .before .before .before .before .before .before .args .kept .now) (c .before .before .before .before .before .before .pre) (loop .i) (loop .inv .0) (c .before .before .before .loop-test .taken))
+    omega (arith, rise-at (start .args .kept .now) (start .pre) (loop .i) (loop .inv .0) (c .before .before .before .loop-test .taken))
 
 mark-frames-requires : tie.Need-mark-frames-requires Inv-loop μ-loop
 mark-frames-requires c κs =
+    let start = c .before .before .before .before .before .before .before in
     let loop = c .before .before .before .before .before .loop in
-    omega (arith, rise-at (c .before .before .before .before .before .before .before .args .kept .now) (c .before .before .before .before .before .before .before .pre) (loop .i) (loop .inv .0) (c .before .before .before .before .loop-test .taken))
+    omega (arith, rise-at (start .args .kept .now) (start .pre) (loop .i) (loop .inv .0) (c .before .before .before .before .loop-test .taken))
 
 add-i : tie.Need-add-i Inv-loop μ-loop
 add-i c = search needs

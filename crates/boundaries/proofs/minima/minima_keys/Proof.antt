@@ -32,44 +32,66 @@ shared-slice-read-m c = search needs
 
 cast-is-wanted : tie.Need-cast-is-wanted Inv-loop μ-loop
 cast-is-wanted c =
-    let args = c .before .before .before .before .before .before .args in
-    let pre = c .before .before .before .before .before .before .pre in
+    let start = c .before .before .before .before .before .before in
+    let args = start .args in
+    let pre = start .pre in
     omega (arith, pre .0, each-at (λ m. m < length (args .level .now)) (args .mins .now) 0 (pre .2) (c .before .before .loop .k) (c .before .loop-test .taken))
 
 is-wanted-requires : tie.Need-is-wanted-requires Inv-loop μ-loop
 is-wanted-requires c κs =
-    let args = c .before .before .before .before .before .before .args in
-    let pre = c .before .before .before .before .before .before .pre in
+    let start = c .before .before .before .before .before .before in
+    let args = start .args in
+    let pre = start .pre in
     omega (arith, pre .0, each-at (λ m. m < length (args .level .now)) (args .mins .now) 0 (pre .2) (c .before .before .loop .k) (c .before .loop-test .taken))
 
 cast-prominence : tie.Need-cast-prominence Inv-loop μ-loop
 cast-prominence c =
-    let args = c .before .before .before .before .before .before .before .before .args in
-    let pre = c .before .before .before .before .before .before .before .before .pre in
+    let start = c .before .before .before .before .before .before .before .before in
+    let args = start .args in
+    let pre = start .pre in
     omega (arith, pre .0, each-at (λ m. m < length (args .level .now)) (args .mins .now) 0 (pre .2) (c .before .before .before .before .loop .k) (c .before .before .before .loop-test .taken))
 
 prominence-requires : tie.Need-prominence-requires Inv-loop μ-loop
 prominence-requires c κs =
-    let args = c .before .before .before .before .before .before .before .before .args in
-    each-at (λ m. m < length (args .level .now)) (args .mins .now) 0 (c .before .before .before .before .before .before .before .before .pre .2) (c .before .before .before .before .loop .k) (c .before .before .before .loop-test .taken)
+    let start = c .before .before .before .before .before .before .before .before in
+    let args = start .args in
+    each-at (λ m. m < length (args .level .now)) (args .mins .now) 0 (start .pre .2) (c .before .before .before .before .loop .k) (c .before .before .before .loop-test .taken)
 
 key-of-requires : tie.Need-key-of-requires Inv-loop μ-loop
 key-of-requires c κs = search needs
 
 mul-out : tie.Need-mul-out Inv-loop μ-loop
 mul-out c =
-    let args = c .before .before .before .before .before .before .before .before .before .before .args in
-    omega (arith, fill-fits (keyed-yes (args .level .now) (λ i. marked (args .spans .now) i && not (marked (args .skip .now) i)) (args .mins .now) (c .before .before .before .before .before .loop-test .taken) (sym (c .before .before .before .is-wanted .ensures) ∙ c .before .before .if1 .taken) (c .before .before .before .before .before .before .loop .inv .1)))
+    let turn = c .before .before .before .before .before .before in
+    let args = turn .before .before .before .before .args in
+    omega (
+      arith,
+      fill-fits
+          (keyed-yes (args .level .now) (λ i. marked (args .spans .now) i && not (marked (args .skip .now) i)) (args .mins .now)
+          (c .before .before .before .before .before .loop-test .taken)
+          (sym (c .before .before .before .is-wanted .ensures) ∙ c .before .before .if1 .taken) (turn .loop .inv .1)),
+    )
 
 slice-write-out : tie.Need-slice-write-out Inv-loop μ-loop
 slice-write-out c =
-    let args = c .before .before .before .before .before .before .before .before .before .before .args in
-    fill-fits (keyed-yes (args .level .now) (λ i. marked (args .spans .now) i && not (marked (args .skip .now) i)) (args .mins .now) (c .before .before .before .before .before .loop-test .taken) (sym (c .before .before .before .is-wanted .ensures) ∙ c .before .before .if1 .taken) (c .before .before .before .before .before .before .loop .inv .1)) .0
+    let turn = c .before .before .before .before .before .before in
+    let args = turn .before .before .before .before .args in
+    fill-fits
+    (keyed-yes (args .level .now) (λ i. marked (args .spans .now) i && not (marked (args .skip .now) i)) (args .mins .now)
+    (c .before .before .before .before .before .loop-test .taken)
+    (sym (c .before .before .before .is-wanted .ensures) ∙ c .before .before .if1 .taken) (turn .loop .inv .1)) .0
 
 add-n : tie.Need-add-n Inv-loop μ-loop
 add-n c =
-    let args = c .before .before .before .before .before .before .before .before .before .before .args in
-    omega (arith, fill-fits (keyed-yes (args .level .now) (λ i. marked (args .spans .now) i && not (marked (args .skip .now) i)) (args .mins .now) (c .before .before .before .before .before .loop-test .taken) (sym (c .before .before .before .is-wanted .ensures) ∙ c .before .before .if1 .taken) (c .before .before .before .before .before .before .loop .inv .1)))
+    let turn = c .before .before .before .before .before .before in
+    let args = turn .before .before .before .before .args in
+    omega (
+      arith,
+      fill-fits
+          (keyed-yes (args .level .now) (λ i. marked (args .spans .now) i && not (marked (args .skip .now) i)) (args .mins .now)
+          (c .before .before .before .before .before .loop-test .taken)
+          (sym (c .before .before .before .is-wanted .ensures) ∙ c .before .before .if1 .taken) (turn .loop .inv .1)),
+    )
 
 add-k : tie.Need-add-k Inv-loop μ-loop
 add-k c = search needs
@@ -84,7 +106,10 @@ loop-again c =
     let test = c .before .before .before .loop-test in (
       omega (arith, test .taken),
       ⊎-elim
-          (λ w. rw (w .3, w .4, w .2 .ensures, w .1 .ensures) (fill-push (keyed-yes (args .level .now) (λ i. marked (args .spans .now) i && not (marked (args .skip .now) i)) (args .mins .now) (test .taken) (sym (c .before .is-wanted .ensures) ∙ w .0 .taken) (loop .inv .1))))
+          (λ w. rw (w .3, w .4, w .2 .ensures, w .1 .ensures)
+          (fill-push
+          (keyed-yes (args .level .now) (λ i. marked (args .spans .now) i && not (marked (args .skip .now) i)) (args .mins .now) (test .taken)
+          (sym (c .before .is-wanted .ensures) ∙ w .0 .taken) (loop .inv .1))))
           (λ w. rw (w .1, w .2) (keyed-no (args .level .now) (λ i. marked (args .spans .now) i && not (marked (args .skip .now) i)) (args .mins .now) (test .taken) (sym (c .before .is-wanted .ensures) ∙ w .0 .left) (loop .inv .1)))
           (c .if1 .came),
     )

@@ -29,7 +29,9 @@ frame-of-requires : tie.Need-frame-of-requires Inv-loop μ-loop
 frame-of-requires c κs = search needs
 
 try-add-requires : tie.Need-try-add-requires Inv-loop μ-loop
-try-add-requires c κs = omega (arith, c .before .frame-of .ensures, frame-at (c .before .before .before .before .before .before .args .keys .now) (c .before .before .before .before .before .before .pre) (c .before .before .before .before .loop .i) (c .before .before .before .loop-test .taken))
+try-add-requires c κs =
+    let start = c .before .before .before .before .before .before in
+    omega (arith, c .before .frame-of .ensures, frame-at (start .args .keys .now) (start .pre) (c .before .before .before .before .loop .i) (c .before .before .before .loop-test .taken))
 
 add-i : tie.Need-add-i Inv-loop μ-loop
 add-i c = search needs

@@ -8,7 +8,9 @@ sort-requires : tie.Need-sort-requires
 sort-requires c κs = search needs
 
 add-keys-requires : tie.Need-add-keys-requires
-add-keys-requires c κs = rw (sorted-only (c .before .before .before .before .before .before .sort .ensures)) (c .before .before .before .before .before .before .before .before .before .before .before .pre .1)
+add-keys-requires c κs =
+    let at-sort = c .before .before .before .before .before .before in
+    rw (sorted-only (at-sort .sort .ensures)) (at-sort .before .before .before .before .before .pre .1)
 
 same-length : tie.Need-same-length
 same-length c = search needs

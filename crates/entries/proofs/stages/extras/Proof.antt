@@ -19,9 +19,10 @@ extra-candidates-requires c κs = extras-admitted _ _ _ _ _ _ _ _ _ _ (sym (c .b
 
 returns-2 : tie.Need-returns-2
 returns-2 c =
-    let number = c .before .before .before .before .before .before .before .before .before .before .before .extras-refusal .ensures in
-    let zero = c .before .before .before .before .before .before .before .before .before .before .if1 .left in
-    let found = c .before .before .before .before .before .before .extra-candidates .ensures in
+    let at-extra-candidates = c .before .before .before .before .before .before in
+    let number = at-extra-candidates .before .before .before .before .before .extras-refusal .ensures in
+    let zero = at-extra-candidates .before .before .before .before .if1 .left in
+    let found = at-extra-candidates .extra-candidates .ensures in
     (sym zero ∙ number, lists framesOf _ number zero (found .0), lists strengthsOf _ number zero (found .1), lists (λ (l : List ℕ). l) _ number zero (found .2))
 
 pub extras-spec : {M : Type 1} → statement M

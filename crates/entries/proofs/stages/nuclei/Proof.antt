@@ -17,8 +17,9 @@ nuclei-requires c κs = nuclei-admitted _ _ _ _ _ _ _ (sym (c .before .before .b
 
 returns-2 : tie.Need-returns-2
 returns-2 c =
-    let number = c .before .before .before .before .before .before .before .before .nuclei-refusal .ensures in
-    let zero = c .before .before .before .before .before .before .before .if1 .left in
+    let at-if1 = c .before .before .before .before .before .before .before in
+    let number = at-if1 .before .nuclei-refusal .ensures in
+    let zero = at-if1 .if1 .left in
     let found = c .before .before .before .before .nuclei .ensures in
     (sym zero ∙ number, lists framesOf _ number zero (found .0), lists strengthsOf _ number zero (found .1))
 

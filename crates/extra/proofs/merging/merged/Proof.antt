@@ -55,12 +55,15 @@ loop-less c = search needs
 
 loop-again : tie.Need-loop-again Inv-loop μ-loop
 loop-again c =
+    let at-marks2 = c .before .before .before .before in
     let l = c .before .before .before in
-    let a = c .before .before .before .before .before .before .before .before .before .before in
+    let a = at-marks2 .before .before .before .before .before .before in
     let g = l .loop .inv in
     let h = c .before .before .loop-test .taken in
     let n : l .loop .i < 2048 = omega arith in
-    let t = sym (either-at (a .args .nuclei .now) (a .args .peaks .now) (c .before .before .before .before .before .marks .result) (c .before .before .before .before .marks2 .result) (l .loop .i) n (c .before .before .before .before .before .marks .ensures) (c .before .before .before .before .marks2 .ensures)) ∙ sym (c .before .either .ensures) in
+    let t = sym
+    (either-at (a .args .nuclei .now) (a .args .peaks .now) (at-marks2 .before .marks .result) (at-marks2 .marks2 .result) (l .loop .i) n
+    (at-marks2 .before .marks .ensures) (at-marks2 .marks2 .ensures)) ∙ sym (c .before .either .ensures) in
     ⊎-elim
     (λ w. rw (w .6, w .7) (merging-one _ _ _ _ _ (g .0) h (t ∙ w .0 .taken) (w .3 .ensures), w .3 .kept .1 .1 .1 .0 ∙ g .1))
     (λ w. rw (w .1, w .2) (merging-not _ _ _ _ _ (g .0) h (t ∙ w .0 .left), g .1))

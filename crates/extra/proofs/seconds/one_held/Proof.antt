@@ -16,16 +16,22 @@ reaches-requires-2 : tie.Need-reaches-requires-2
 reaches-requires-2 c κs = search needs
 
 returns : tie.Need-returns
-returns c = held-more _ _ _ _ (c .before .before .before .before .before .pre .2) (c .before .before .before .before .before .pre .3) (sym (c .before .before .before .reaches .ensures) ∙ c .before .before .if1 .taken) (sym (c .before .reaches2 .ensures) ∙ c .if2 .taken)
+returns c =
+    let start = c .before .before .before .before .before in
+    held-more _ _ _ _ (start .pre .2) (start .pre .3) (sym (c .before .before .before .reaches .ensures) ∙ c .before .before .if1 .taken) (sym (c .before .reaches2 .ensures) ∙ c .if2 .taken)
 
 mul-t7 : tie.Need-mul-t7
 mul-t7 c = search needs
 
 shared-slice-read-t9 : tie.Need-shared-slice-read-t9
-shared-slice-read-t9 c = reach-within (c .before .before .before .before .before .before .args .kept .now) (c .before .before .before .before .before .before .args .q) (c .before .before .before .before .before .before .args .b + 2) (sym (c .before .before .before .before .reaches .ensures) ∙ c .before .before .before .if1 .taken)
+shared-slice-read-t9 c =
+    let start = c .before .before .before .before .before .before in
+    reach-within (start .args .kept .now) (start .args .q) (start .args .b + 2) (sym (c .before .before .before .before .reaches .ensures) ∙ c .before .before .before .if1 .taken)
 
 returns-2 : tie.Need-returns-2
-returns-2 c = held-one _ _ _ _ (c .before .before .before .before .before .before .pre .2) (c .before .before .before .before .before .before .pre .3) (sym (c .before .before .before .before .reaches .ensures) ∙ c .before .before .before .if1 .taken) (sym (c .before .before .reaches2 .ensures) ∙ c .before .if2 .left)
+returns-2 c =
+    let start = c .before .before .before .before .before .before in
+    held-one _ _ _ _ (start .pre .2) (start .pre .3) (sym (c .before .before .before .before .reaches .ensures) ∙ c .before .before .before .if1 .taken) (sym (c .before .before .reaches2 .ensures) ∙ c .before .if2 .left)
 
 returns-3 : tie.Need-returns-3
 returns-3 c = held-none _ _ _ _ (c .before .before .before .pre .2) (c .before .before .before .pre .3) (sym (c .before .reaches .ensures) ∙ c .if1 .left)

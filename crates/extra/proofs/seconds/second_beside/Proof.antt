@@ -20,7 +20,9 @@ returns : tie.Need-returns
 returns c = rw (sym (c .before .before .split .ensures) ∙ c .enum-told .given .1)
 
 within : (c : tie.After-known-told) → (c .before .before .before .before .before .args .a + 6 ≤ c .before .k .given .0 .0) × (c .before .k .given .0 .0 + 5 ≤ c .before .before .before .before .before .args .b)
-within c = split-within (c .before .before .before .before .before .args .son .now) (record { first = c .before .before .before .before .before .args .a; last = c .before .before .before .before .before .args .b }) (c .before .before .before .before .before .args .nucleus) (sym (c .before .before .before .split .ensures) ∙ c .before .k .given .1)
+within c =
+    let start = c .before .before .before .before .before in
+    split-within (start .args .son .now) (record { first = start .args .a; last = start .args .b }) (start .args .nucleus) (sym (c .before .before .before .split .ensures) ∙ c .before .k .given .1)
 
 other-part-requires : tie.Need-other-part-requires
 other-part-requires c κs =

@@ -32,9 +32,10 @@ slice-aggregate-seconds-of-2 c = listed-count (c .before .before .before .before
 
 seconds-of-requires : tie.Need-seconds-of-requires
 seconds-of-requires c κs =
-    let a = c .before .before .before .before .before .before .before .before .before .before .before .before .before .before in
+    let at-long-runs = c .before .before .before .before .before .before in
+    let a = at-long-runs .before .before .before .before .before .before .before .before in
     let pitch = a .args .pitch .now in
-    let w = written (longRuns pitch) (c .before .before .before .before .before .before .long-runs .ensures) in
+    let w = written (longRuns pitch) (at-long-runs .long-runs .ensures) in
     (a .pre .0, a .pre .2, w .firsts-many ∙ sym (w .lasts-many), rw (w .runs, ← a .pre .1) (long-spaced pitch), omega (arith, w .firsts-many, long-few pitch), omega (arith, w .firsts-many, long-few pitch))
 
 same-length : tie.Need-same-length
@@ -45,7 +46,8 @@ same-length-2 c = search needs
 
 returns : tie.Need-returns
 returns c =
-    let w = written (longRuns (c .before .before .before .before .before .before .before .before .before .before .before .before .before .before .before .before .before .before .before .args .pitch .now)) (c .before .before .before .before .before .before .before .before .before .before .before .long-runs .ensures) in
+    let at-long-runs = c .before .before .before .before .before .before .before .before .before .before .before in
+    let w = written (longRuns (at-long-runs .before .before .before .before .before .before .before .before .args .pitch .now)) (at-long-runs .long-runs .ensures) in
     rw (w .runs) at (c .before .before .before .before .seconds-of .ensures)
 
 pub second-syllables-spec : {M : Type 1} → statement M

@@ -14,15 +14,24 @@ use Rattle.extra.proofs.seconds.seconds_of.Statement.{statement}
 use Rattle.extra.proofs.seconds.seconds_of.Tie as tie
 
 abbrev Inv-loop : tie.InvT-loop
-Inv-loop son kept first last frames₀ edges₀ q₀ n₀ i₀ frames edges q n i = (i ≤ length first) × Walking (length son) kept first last q i × Filling (map frameOf (seconds son kept (spans first last))) (map frameOf (seconds son kept (spansFrom first last i))) frames₀ frames n × Filling (map edgeOf (seconds son kept (spans first last))) (map edgeOf (seconds son kept (spansFrom first last i))) edges₀ edges n
+Inv-loop son kept first last frames₀ edges₀ q₀ n₀ i₀ frames edges q n i =
+    (i ≤ length first) × Walking (length son) kept first last q i × Filling (map frameOf (seconds son kept (spans first last)))
+    (map frameOf (seconds son kept (spansFrom first last i))) frames₀ frames n × Filling (map edgeOf (seconds son kept (spans first last)))
+    (map edgeOf (seconds son kept (spansFrom first last i))) edges₀ edges n
 
 abbrev μ-loop : tie.MeasureT-loop
 μ-loop son kept first last frames₀ edges₀ q₀ n₀ i₀ frames edges q n i = length first - i
 
 loop-holds : tie.Need-loop-holds Inv-loop μ-loop
 loop-holds c =
-    let a = c .before .before .before .before .before .before in
-    (omega arith, walk-start _ _ _ _ (a .pre .3), fill-start _ _ (omega (arith, seconds-room (a .args .son .now) (a .args .kept .now) frameOf (a .args .first .now) (a .args .last .now), a .pre .4)), fill-start _ _ (omega (arith, seconds-room (a .args .son .now) (a .args .kept .now) edgeOf (a .args .first .now) (a .args .last .now), a .pre .5)))
+    let a = c .before .before .before .before .before .before in (
+      omega arith,
+      walk-start _ _ _ _ (a .pre .3),
+      fill-start _ _
+          (omega (arith, seconds-room (a .args .son .now) (a .args .kept .now) frameOf (a .args .first .now) (a .args .last .now), a .pre .4)),
+      fill-start _ _
+          (omega (arith, seconds-room (a .args .son .now) (a .args .kept .now) edgeOf (a .args .first .now) (a .args .last .now), a .pre .5)),
+    )
 
 mul-a : tie.Need-mul-a Inv-loop μ-loop
 mul-a c = search needs
@@ -47,12 +56,18 @@ second-in-requires c κs =
 
 push-second-requires : tie.Need-push-second-requires Inv-loop μ-loop
 push-second-requires c κs =
-    let a = c .before .before .before .before .before .before .before .before .before .before .before .before .before .before in
-    let l = c .before .before .before .before .before .before .before .loop in
-    let h = c .before .before .before .before .before .before .loop-test .taken in
+    let at-loop-test = c .before .before .before .before .before .before in
+    let a = at-loop-test .before .before .before .before .before .before .before .before in
+    let l = at-loop-test .before .loop in
+    let h = at-loop-test .loop-test .taken in
     let k : l .i < length (a .args .last .now) = omega arith in
     let e = sym (c .before .before .second-in .ensures) in
-    λ t. (fill-fitsIf _ _ _ (ap there e ∙ t) (rw (seconds-step (a .args .son .now) (a .args .kept .now) frameOf (a .args .first .now) (a .args .last .now) (l .i) h k) at (l .inv .2)), fill-fitsIf _ _ _ (ap there e ∙ t) (rw (seconds-step (a .args .son .now) (a .args .kept .now) edgeOf (a .args .first .now) (a .args .last .now) (l .i) h k) at (l .inv .3)))
+    λ t. (
+      fill-fitsIf _ _ _ (ap there e ∙ t)
+          (rw (seconds-step (a .args .son .now) (a .args .kept .now) frameOf (a .args .first .now) (a .args .last .now) (l .i) h k) at (l .inv .2)),
+      fill-fitsIf _ _ _ (ap there e ∙ t)
+          (rw (seconds-step (a .args .son .now) (a .args .kept .now) edgeOf (a .args .first .now) (a .args .last .now) (l .i) h k) at (l .inv .3)),
+    )
 
 add-i : tie.Need-add-i Inv-loop μ-loop
 add-i c = search needs
@@ -62,13 +77,21 @@ loop-less c = search needs
 
 loop-again : tie.Need-loop-again Inv-loop μ-loop
 loop-again c =
-    let a = c .before .before .before .before .before .before .before .before .before .before .before .before .before .before .before .before .before .before .before in
-    let l = c .before .before .before .before .before .before .before .before .before .before .before .before .loop in
-    let h = c .before .before .before .before .before .before .before .before .before .before .before .loop-test .taken in
+    let at-second-in = c .before .before .before .before .before .before .before in
+    let a = at-second-in .before .before .before .before .before .before .before .before .before .before .before .before in
+    let l = at-second-in .before .before .before .before .before .loop in
+    let h = at-second-in .before .before .before .before .loop-test .taken in
     let k : l .i < length (a .args .last .now) = omega arith in
-    let x = c .before .before .before .before .before .before .before .second-in .ensures in
-    let p = rw x at (c .before .before .before .before .push-second .ensures) in
-    (omega arith, walk-next _ _ _ _ _ h k (l .inv .1) (c .before .before .before .before .before .before .before .before .skip-to .ensures .passed), fill-pushed _ _ (rw (seconds-step (a .args .son .now) (a .args .kept .now) frameOf (a .args .first .now) (a .args .last .now) (l .i) h k) at (l .inv .2)) (p .0), fill-pushed _ _ (rw (seconds-step (a .args .son .now) (a .args .kept .now) edgeOf (a .args .first .now) (a .args .last .now) (l .i) h k) at (l .inv .3)) (p .1))
+    let x = at-second-in .second-in .ensures in
+    let p = rw x at (c .before .before .before .before .push-second .ensures) in (
+      omega arith,
+      walk-next _ _ _ _ _ h k (l .inv .1) (at-second-in .before .skip-to .ensures .passed),
+      fill-pushed _ _
+          (rw (seconds-step (a .args .son .now) (a .args .kept .now) frameOf (a .args .first .now) (a .args .last .now) (l .i) h k) at (l .inv .2))
+          (p .0),
+      fill-pushed _ _
+          (rw (seconds-step (a .args .son .now) (a .args .kept .now) edgeOf (a .args .first .now) (a .args .last .now) (l .i) h k) at (l .inv .3)) (p .1),
+    )
 
 same-length : tie.Need-same-length Inv-loop μ-loop
 same-length c = fill-length (c .before .loop .inv .2)

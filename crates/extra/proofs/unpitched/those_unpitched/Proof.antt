@@ -18,7 +18,9 @@ abbrev μ-loop : tie.MeasureT-loop
 μ-loop s pitch son b peaks out₀ n₀ i₀ out n i = length peaks - i
 
 loop-holds : tie.Need-loop-holds Inv-loop μ-loop
-loop-holds c = (omega arith, fill-start _ _ (omega (arith, filter-le (unpitched (c .before .before .before .before .before .args .s .now) (c .before .before .before .before .before .args .pitch .now) (c .before .before .before .before .before .args .son .now) (c .before .before .before .before .before .args .b)) (c .before .before .before .before .before .args .peaks .now))))
+loop-holds c =
+    let start = c .before .before .before .before .before in
+    (omega arith, fill-start _ _ (omega (arith, filter-le (unpitched (start .args .s .now) (start .args .pitch .now) (start .args .son .now) (start .args .b)) (start .args .peaks .now))))
 
 mul-x : tie.Need-mul-x Inv-loop μ-loop
 mul-x c = search needs

@@ -15,7 +15,9 @@ pitch-near-requires : tie.Need-pitch-near-requires
 pitch-near-requires c κs = search needs
 
 vowel-like-requires : tie.Need-vowel-like-requires
-vowel-like-requires c κs = omega (arith, speech-inside _ _ _ (sym (c .before .before .before .level-is-speech .ensures) ∙ c .before .before .if1 .taken), c .before .before .before .before .before .before .before .pre .0, c .before .before .before .before .before .before .before .pre .1)
+vowel-like-requires c κs =
+    let start = c .before .before .before .before .before .before .before in
+    omega (arith, speech-inside _ _ _ (sym (c .before .before .before .level-is-speech .ensures) ∙ c .before .before .if1 .taken), start .pre .0, start .pre .1)
 
 returns : tie.Need-returns
 unfolding unpitched

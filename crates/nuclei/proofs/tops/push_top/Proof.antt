@@ -29,10 +29,14 @@ argmax-middle-requires : tie.Need-argmax-middle-requires
 argmax-middle-requires c κs = search needs
 
 cast-top : tie.Need-cast-top
-cast-top c = omega (arith, top-within _ (c .before .before .before .before .before .before .args .b) (c .before .before .before .before .before .before .args .dip) _ (c .before .before .before .larger .ensures) (c .before .before .smaller .ensures) (c .before .if1 .left) (c .argmax-middle .ensures) (c .before .before .before .before .before .before .pre .1))
+cast-top c =
+    let start = c .before .before .before .before .before .before in
+    omega (arith, top-within _ (start .args .b) (start .args .dip) _ (c .before .before .before .larger .ensures) (c .before .before .smaller .ensures) (c .before .if1 .left) (c .argmax-middle .ensures) (start .pre .1))
 
 stands-alone-requires : tie.Need-stands-alone-requires
-stands-alone-requires c κs = (top-within _ (c .before .before .before .before .before .before .args .b) (c .before .before .before .before .before .before .args .dip) _ (c .before .before .before .larger .ensures) (c .before .before .smaller .ensures) (c .before .if1 .left) (c .argmax-middle .ensures) (c .before .before .before .before .before .before .pre .1), c .before .before .before .before .before .before .pre .1)
+stands-alone-requires c κs =
+    let start = c .before .before .before .before .before .before in
+    (top-within _ (start .args .b) (start .args .dip) _ (c .before .before .before .larger .ensures) (c .before .before .smaller .ensures) (c .before .if1 .left) (c .argmax-middle .ensures) (start .pre .1), start .pre .1)
 
 stands : (c : tie.After-stands-alone) → hasTop (c .before .before .before .before .before .before .before .args .s .now) (c .before .before .before .before .before .before .before .args .b) (c .before .before .before .before .before .before .before .args .dip) (record { first = c .before .before .before .before .before .before .before .args .first; last = c .before .before .before .before .before .before .before .args .last }) ≡ c .stands-alone .result
 stands c = sym (top-stands _ _ _ _ (c .before .before .before .before .larger .ensures) (c .before .before .before .smaller .ensures) (c .before .before .if1 .left) (c .before .argmax-middle .ensures) (c .stands-alone .ensures))
@@ -53,7 +57,13 @@ returns-2 : tie.Need-returns-2
 returns-2 c =
     let a = c .before .before .before .before .before .before .before .before .args in
     let e = stands (c .before) ∙ c .if2 .taken in
-    record { count = rw e; entries = rw e (ap (λ (t : ℕ). set (a .out .now) (a .n) t) (top-is _ (a .b) (a .dip) _ (c .before .before .before .before .before .larger .ensures) (c .before .before .before .before .smaller .ensures) (c .before .before .before .if1 .left) (c .before .before .argmax-middle .ensures))) }
+    record {
+      count = rw e;
+      entries = rw e
+          (ap (λ (t : ℕ). set (a .out .now) (a .n) t)
+          (top-is _ (a .b) (a .dip) _ (c .before .before .before .before .before .larger .ensures)
+          (c .before .before .before .before .smaller .ensures) (c .before .before .before .if1 .left) (c .before .before .argmax-middle .ensures)));
+    }
 
 returns-3 : tie.Need-returns-3
 returns-3 c = pushed-no _ _ _ (stands (c .before) ∙ c .if2 .left)

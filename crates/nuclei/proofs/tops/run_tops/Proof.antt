@@ -42,10 +42,11 @@ shared-slice-read-push-top-2 c = search needs
 
 push-top-requires : tie.Need-push-top-requires Inv-loop μ-loop
 push-top-requires c κs =
+    let at-marks = c .before .before .before .before .before .before in
     let l = c .before .before .before .before .before in
-    let a = c .before .before .before .before .before .before .before .before .before .before .before .before in
+    let a = at-marks .before .before .before .before .before .before in
     let h = c .before .before .before .before .loop-test .taken in
-    let u = marked-no (a .args .held .now) (c .before .before .before .before .before .before .marks .result) (l .loop .k) (omega arith) (c .before .before .before .before .before .before .marks .ensures) (c .before .before .before .if1 .taken) in
+    let u = marked-no (a .args .held .now) (at-marks .marks .result) (l .loop .k) (omega arith) (at-marks .marks .ensures) (c .before .before .before .if1 .taken) in
     (a .pre .0, a .pre .1, λ e. fill-fitsIf _ _ _ e (rw (come-unheld (a .args .s .now) (a .args .b) (a .args .dip) (a .args .held .now) (a .args .first .now) (a .args .last .now) (l .loop .k) h (omega arith) u) at (l .loop .inv .1)))
 
 add-k : tie.Need-add-k Inv-loop μ-loop
@@ -64,8 +65,15 @@ loop-again c =
     let m = c .before .before .before .marks in (
       omega arith,
       ⊎-elim
-          (λ w. rw (w .7, w .8) (fill-pushed _ _ (rw (come-unheld (a .s .now) (a .b) (a .dip) (a .held .now) (a .first .now) (a .last .now) (l .loop .k) h i (marked-no (a .held .now) (m .result) (l .loop .k) n (m .ensures) (w .0 .taken))) at (l .loop .inv .1)) (w .4 .ensures)))
-          (λ w. rw (w .1, w .2) (rw (come-held (a .s .now) (a .b) (a .dip) (a .held .now) (a .first .now) (a .last .now) (l .loop .k) h i (marked-yes (a .held .now) (m .result) (l .loop .k) n (m .ensures) (w .0 .left))) at (l .loop .inv .1)))
+          (λ w. rw (w .7, w .8)
+          (fill-pushed _ _
+          (rw
+          (come-unheld (a .s .now) (a .b) (a .dip) (a .held .now) (a .first .now) (a .last .now) (l .loop .k) h i
+          (marked-no (a .held .now) (m .result) (l .loop .k) n (m .ensures) (w .0 .taken))) at (l .loop .inv .1)) (w .4 .ensures)))
+          (λ w. rw (w .1, w .2)
+          (rw
+          (come-held (a .s .now) (a .b) (a .dip) (a .held .now) (a .first .now) (a .last .now) (l .loop .k) h i
+          (marked-yes (a .held .now) (m .result) (l .loop .k) n (m .ensures) (w .0 .left))) at (l .loop .inv .1)))
           (c .if1 .came),
     )
 

@@ -40,7 +40,9 @@ loop-less : tie.Need-loop-less Inv-loop μ-loop
 loop-less c = search needs
 
 loop-again : tie.Need-loop-again Inv-loop μ-loop
-loop-again c = (omega arith, fill-pushed _ _ (rw (held-step _ _ _ (c .before .before .before .before .before .before .loop-test .taken)) at (c .before .before .before .before .before .before .before .loop .inv .1)) (rw (c .before .before .before .before .run-of .ensures) at (c .before .before .push-number .ensures)))
+loop-again c =
+    let at-loop-test = c .before .before .before .before .before .before in
+    (omega arith, fill-pushed _ _ (rw (held-step _ _ _ (at-loop-test .loop-test .taken)) at (at-loop-test .before .loop .inv .1)) (rw (c .before .before .before .before .run-of .ensures) at (c .before .before .push-number .ensures)))
 
 same-length : tie.Need-same-length Inv-loop μ-loop
 same-length c = fill-length (c .before .loop .inv .1)

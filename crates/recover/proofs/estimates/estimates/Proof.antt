@@ -43,15 +43,17 @@ loop-less c = search needs
 loop-again : tie.Need-loop-again Inv-loop μ-loop
 loop-again c =
     let a = c .before .before .before .before .before .before .before .before .args in
-    trying-more (periodHz (a .samples .now)) (a .pitch .now) (a .speech .now) (a .vowel .now) (c .held .result) (c .before .before .loop-test .taken) (c .held .ensures ∙ ap held (c .before .estimate-at .ensures)) (c .before .before .before .loop .inv)
+    trying-more (periodHz (a .samples .now)) (a .pitch .now) (a .speech .now) (a .vowel .now) (c .held .result) (c .before .before .loop-test .taken)
+    (c .held .ensures ∙ ap held (c .before .estimate-at .ensures)) (c .before .before .before .loop .inv)
 
 same-length : tie.Need-same-length Inv-loop μ-loop
 same-length c = fill-length (c .before .loop .inv)
 
 returns : tie.Need-returns Inv-loop μ-loop
 returns c =
-    let a = c .before .before .before .before .before .before .args in
-    trying-end (periodHz (a .samples .now)) (a .pitch .now) (a .speech .now) (a .vowel .now) (c .before .before .before .before .before .before .pre .1) (c .loop-test .left) (c .before .loop .inv)
+    let start = c .before .before .before .before .before .before in
+    let a = start .args in
+    trying-end (periodHz (a .samples .now)) (a .pitch .now) (a .speech .now) (a .vowel .now) (start .pre .1) (c .loop-test .left) (c .before .loop .inv)
 
 pub estimates-spec : {M : Type 1} → statement M
 estimates-spec =

@@ -59,9 +59,10 @@ returns-2 c =
 
 within-step-requires : tie.Need-within-step-requires
 within-step-requires c κs =
+    let at-6 = c .before .before .before .before .before .before in
     let here = c .before in
-    let last = c .before .before .before .before .before .before in
-    let s = c .before .before .before .before .before .before .before .before .before .before .before in
+    let last = at-6 in
+    let s = at-6 .before .before .before .before .before in
     let xs = s .args .estimates .now in
     let i = s .args .i in (
       read-range (getD xs (i - 1) nan) (last .last .given .0 .0) (each-at (PitchOrNone 60 600) xs nan (s .pre .0) (i - 1) (omega arith)) (sym (last .before .before .read .ensures) ∙ last .last .given .1),
@@ -70,9 +71,10 @@ within-step-requires c κs =
 
 returns-3 : tie.Need-returns-3
 returns-3 c =
+    let at-7 = c .before .before .before .before .before .before .before in
     let here = c .before .before in
-    let last = c .before .before .before .before .before .before .before in
-    let s = c .before .before .before .before .before .before .before .before .before .before .before .before in
+    let last = at-7 in
+    let s = at-7 .before .before .before .before .before in
     let a = s .args in
     c .within-step .ensures ∙ joins-both (a .estimates .now) (a .i) (s .pre .1 .0) (s .pre .1 .1) (sym (last .before .before .read .ensures) ∙ last .last .given .1) (sym (here .before .before .read2 .ensures) ∙ here .here .given .1)
 

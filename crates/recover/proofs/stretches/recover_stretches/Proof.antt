@@ -22,30 +22,55 @@ end-of-requires : tie.Need-end-of-requires Inv-loop μ-loop
 end-of-requires c κs = (c .before .before .before .before .before .pre .0, c .loop-test .taken)
 
 is-island-requires : tie.Need-is-island-requires Inv-loop μ-loop
-is-island-requires c κs = omega (arith, end-bounds (c .before .before .before .before .before .before .args .estimates .now) (c .before .before .loop .s) (c .end-of .result) (c .before .loop-test .taken) (c .end-of .ensures), c .before .before .before .before .before .before .pre .1)
+is-island-requires c κs =
+    let start = c .before .before .before .before .before .before in
+    omega (arith, end-bounds (start .args .estimates .now) (c .before .before .loop .s) (c .end-of .result) (c .before .loop-test .taken) (c .end-of .ensures), start .pre .1)
 
 store-requires : tie.Need-store-requires Inv-loop μ-loop
-store-requires c κs = omega (arith, end-bounds (c .before .before .before .before .before .before .before .before .before .args .estimates .now) (c .before .before .before .before .before .loop .s) (c .before .before .before .end-of .result) (c .before .before .before .before .loop-test .taken) (c .before .before .before .end-of .ensures), c .before .before .before .before .before .before .before .before .before .pre .1 .0, c .before .before .before .before .before .loop .inv .size)
+store-requires c κs =
+    let turn = c .before .before .before .before .before in
+    let start = turn .before .before .before .before in
+    omega (
+      arith,
+      end-bounds (start .args .estimates .now) (turn .loop .s) (c .before .before .before .end-of .result)
+          (c .before .before .before .before .loop-test .taken) (c .before .before .before .end-of .ensures),
+      start .pre .1 .0,
+      turn .loop .inv .size,
+    )
 
 loop-less : tie.Need-loop-less Inv-loop μ-loop
-loop-less c = omega (arith, end-bounds (c .before .before .before .before .before .before .before .before .before .before .before .before .args .estimates .now) (c .before .before .before .before .before .before .before .before .loop .s) (c .before .before .before .before .before .before .end-of .result) (c .before .before .before .before .before .before .before .loop-test .taken) (c .before .before .before .before .before .before .end-of .ensures))
+loop-less c =
+    let at-end-of = c .before .before .before .before .before .before in
+    omega (
+      arith,
+      end-bounds (at-end-of .before .before .before .before .before .before .args .estimates .now) (at-end-of .before .before .loop .s)
+          (at-end-of .end-of .result) (at-end-of .before .loop-test .taken) (at-end-of .end-of .ensures),
+    )
 
 loop-again : tie.Need-loop-again Inv-loop μ-loop
 loop-again c =
-    let u = c .before .before .before .before .before .before .before .before in
-    let s = c .before .before .before .before .before .before .before .before .before .before .before .before in
+    let at-end-of = c .before .before .before .before .before .before in
+    let u = at-end-of .before .before in
+    let s = at-end-of .before .before .before .before .before .before in
     let a = s .args in
-    settled-stored (a .given .now) (a .estimates .now) (s .pre .1 .0) (s .pre .0) (c .before .before .before .before .before .before .before .loop-test .taken) (u .loop .inv) (c .before .before .before .before .before .before .end-of .result) (c .before .before .before .before .before .before .end-of .ensures)
+    settled-stored (a .given .now) (a .estimates .now) (s .pre .1 .0) (s .pre .0) (at-end-of .before .loop-test .taken) (u .loop .inv) (at-end-of .end-of .result) (at-end-of .end-of .ensures)
     (sym (c .before .before .before .before .before .is-island .ensures) ∙ c .before .before .before .before .if1 .taken) (c .before .before .store .ensures)
 
 loop-less-2 : tie.Need-loop-less-2 Inv-loop μ-loop
-loop-less-2 c = omega (arith, end-bounds (c .before .before .before .before .before .before .before .before .args .estimates .now) (c .before .before .before .before .loop .s) (c .before .before .end-of .result) (c .before .before .before .loop-test .taken) (c .before .before .end-of .ensures))
+loop-less-2 c =
+    omega (
+      arith,
+      end-bounds (c .before .before .before .before .before .before .before .before .args .estimates .now)
+          (c .before .before .before .before .loop .s) (c .before .before .end-of .result) (c .before .before .before .loop-test .taken)
+          (c .before .before .end-of .ensures),
+    )
 
 loop-again-2 : tie.Need-loop-again-2 Inv-loop μ-loop
 loop-again-2 c =
     let s = c .before .before .before .before .before .before .before .before in
     let a = s .args in
-    settled-kept (a .given .now) (a .estimates .now) (s .pre .1 .0) (s .pre .0) (c .before .before .before .loop-test .taken) (c .before .before .before .before .loop .inv) (c .before .before .end-of .result) (c .before .before .end-of .ensures)
+    settled-kept (a .given .now) (a .estimates .now) (s .pre .1 .0) (s .pre .0) (c .before .before .before .loop-test .taken)
+    (c .before .before .before .before .loop .inv) (c .before .before .end-of .result) (c .before .before .end-of .ensures)
     (sym (c .before .is-island .ensures) ∙ c .if1 .left)
 
 same-length : tie.Need-same-length Inv-loop μ-loop

@@ -37,25 +37,50 @@ shared-slice-read-a c = search needs
 
 breaks-from-requires : tie.Need-breaks-from-requires Inv-loop μ-loop
 breaks-from-requires c κs =
-    let a = c .before .before .before .before .before .before .before .before .before .args in
+    let start = c .before .before .before .before .before .before .before .before .before in
+    let a = start .args in
     let at = c .before .before .before .loop .i in
-    let in-track = within-at (length (a .pitch .now)) (a .first .now) (a .last .now) (c .before .before .before .before .before .before .before .before .before .pre .0 .0) (c .before .before .before .before .before .before .before .before .before .pre .0 .1) in
+    let in-track = within-at (length (a .pitch .now)) (a .first .now) (a .last .now) (start .pre .0 .0) (start .pre .0 .1) in
     (omega (arith, in-track (at - 1) (omega arith)), omega (arith, in-track at (c .before .before .loop-test .taken)))
 
 mul-before : tie.Need-mul-before Inv-loop μ-loop
-mul-before c = omega (arith, gapping-room _ _ _ _ _ (c .before .before .before .before .before .before .before .before .before .before .before .pre .0 .0) (c .before .before .before .before .before .loop .inv) (c .before .before .before .before .loop-test .taken) (ap not (sym (c .before .breaks-from .ensures)) ∙ c .if1 .taken))
+mul-before c =
+    omega (
+      arith,
+      gapping-room _ _ _ _ _ (c .before .before .before .before .before .before .before .before .before .before .before .pre .0 .0)
+          (c .before .before .before .before .before .loop .inv) (c .before .before .before .before .loop-test .taken)
+          (ap not (sym (c .before .breaks-from .ensures)) ∙ c .if1 .taken),
+    )
 
 slice-write-before : tie.Need-slice-write-before Inv-loop μ-loop
-slice-write-before c = gapping-room _ _ _ _ _ (c .before .before .before .before .before .before .before .before .before .before .before .pre .0 .0) (c .before .before .before .before .before .loop .inv) (c .before .before .before .before .loop-test .taken) (ap not (sym (c .before .breaks-from .ensures)) ∙ c .if1 .taken) .0
+slice-write-before c =
+    gapping-room _ _ _ _ _ (c .before .before .before .before .before .before .before .before .before .before .before .pre .0 .0)
+    (c .before .before .before .before .before .loop .inv) (c .before .before .before .before .loop-test .taken)
+    (ap not (sym (c .before .breaks-from .ensures)) ∙ c .if1 .taken) .0
 
 mul-after : tie.Need-mul-after Inv-loop μ-loop
-mul-after c = omega (arith, gapping-room _ _ _ _ _ (c .before .before .before .before .before .before .before .before .before .before .before .pre .0 .0) (c .before .before .before .before .before .loop .inv) (c .before .before .before .before .loop-test .taken) (ap not (sym (c .before .breaks-from .ensures)) ∙ c .if1 .taken))
+mul-after c =
+    omega (
+      arith,
+      gapping-room _ _ _ _ _ (c .before .before .before .before .before .before .before .before .before .before .before .pre .0 .0)
+          (c .before .before .before .before .before .loop .inv) (c .before .before .before .before .loop-test .taken)
+          (ap not (sym (c .before .breaks-from .ensures)) ∙ c .if1 .taken),
+    )
 
 slice-write-after : tie.Need-slice-write-after Inv-loop μ-loop
-slice-write-after c = gapping-room _ _ _ _ _ (c .before .before .before .before .before .before .before .before .before .before .before .pre .0 .0) (c .before .before .before .before .before .loop .inv) (c .before .before .before .before .loop-test .taken) (ap not (sym (c .before .breaks-from .ensures)) ∙ c .if1 .taken) .1
+slice-write-after c =
+    gapping-room _ _ _ _ _ (c .before .before .before .before .before .before .before .before .before .before .before .pre .0 .0)
+    (c .before .before .before .before .before .loop .inv) (c .before .before .before .before .loop-test .taken)
+    (ap not (sym (c .before .breaks-from .ensures)) ∙ c .if1 .taken) .1
 
 add-n : tie.Need-add-n Inv-loop μ-loop
-add-n c = omega (arith, gapping-room _ _ _ _ _ (c .before .before .before .before .before .before .before .before .before .before .before .pre .0 .0) (c .before .before .before .before .before .loop .inv) (c .before .before .before .before .loop-test .taken) (ap not (sym (c .before .breaks-from .ensures)) ∙ c .if1 .taken))
+add-n c =
+    omega (
+      arith,
+      gapping-room _ _ _ _ _ (c .before .before .before .before .before .before .before .before .before .before .before .pre .0 .0)
+          (c .before .before .before .before .before .loop .inv) (c .before .before .before .before .loop-test .taken)
+          (ap not (sym (c .before .breaks-from .ensures)) ∙ c .if1 .taken),
+    )
 
 add-i : tie.Need-add-i Inv-loop μ-loop
 add-i c = search needs

@@ -38,13 +38,17 @@ shared-slice-read-breaks-from-2 c = search needs
 
 breaks-from-requires : tie.Need-breaks-from-requires Inv-loop μ-loop
 breaks-from-requires c κs =
-    let a = c .before .before .before .before .before .before .before .args in
+    let start = c .before .before .before .before .before .before .before in
+    let a = start .args in
     let at = c .before .before .before .loop .end in
-    let in-track = within-at (length (a .pitch .now)) (a .first .now) (a .last .now) (c .before .before .before .before .before .before .before .pre .0 .0) (c .before .before .before .before .before .before .before .pre .0 .1) in
+    let in-track = within-at (length (a .pitch .now)) (a .first .now) (a .last .now) (start .pre .0 .0) (start .pre .0 .1) in
     (omega (arith, in-track (at - 1) (omega arith)), omega (arith, in-track at (c .before .before .loop-test .taken)))
 
 returns : tie.Need-returns Inv-loop μ-loop
-returns c = joining-cut _ _ _ (c .before .before .before .before .before .before .before .before .before .pre .0 .0) (c .before .before .before .before .before .loop .inv) (c .before .before .before .before .loop-test .taken) (sym (c .before .breaks-from .ensures) ∙ c .if1 .taken)
+returns c =
+    joining-cut _ _ _ (c .before .before .before .before .before .before .before .before .before .pre .0 .0)
+    (c .before .before .before .before .before .loop .inv) (c .before .before .before .before .loop-test .taken)
+    (sym (c .before .breaks-from .ensures) ∙ c .if1 .taken)
 
 add-end-2 : tie.Need-add-end-2 Inv-loop μ-loop
 add-end-2 c = search needs
@@ -53,7 +57,10 @@ loop-less : tie.Need-loop-less Inv-loop μ-loop
 loop-less c = search needs
 
 loop-again : tie.Need-loop-again Inv-loop μ-loop
-loop-again c = joining-on _ _ _ (c .before .before .before .before .before .before .before .before .before .pre .0 .0) (c .before .before .before .before .before .loop .inv) (c .before .before .before .before .loop-test .taken) (sym (c .before .breaks-from .ensures) ∙ c .if1 .left)
+loop-again c =
+    joining-on _ _ _ (c .before .before .before .before .before .before .before .before .before .pre .0 .0)
+    (c .before .before .before .before .before .loop .inv) (c .before .before .before .before .loop-test .taken)
+    (sym (c .before .breaks-from .ensures) ∙ c .if1 .left)
 
 returns-2 : tie.Need-returns-2 Inv-loop μ-loop
 returns-2 c = joining-end _ _ _ (c .before .before .before .before .before .pre .0 .0) (c .before .loop .inv) (c .loop-test .left)

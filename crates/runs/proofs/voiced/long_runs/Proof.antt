@@ -39,7 +39,9 @@ loop-less : tie.Need-loop-less Inv-loop μ-loop
 loop-less c = search needs
 
 loop-again : tie.Need-loop-again Inv-loop μ-loop
-loop-again c = running-long-on _ _ _ _ (c .before .before .before .before .before .before .before .before .before .run-from .ensures .0) (c .before .before .before .before .before .before .before .before .before .before .before .loop .inv) (c .before .before .before .before .before .before .push-long .ensures) (c .next-voiced2 .ensures)
+loop-again c =
+    let at-push-long = c .before .before .before .before .before .before in
+    running-long-on _ _ _ _ (at-push-long .before .before .before .run-from .ensures .0) (at-push-long .before .before .before .before .before .loop .inv) (at-push-long .push-long .ensures) (c .next-voiced2 .ensures)
 
 same-length : tie.Need-same-length Inv-loop μ-loop
 same-length c = spans-lengths (c .before .loop .inv .ends) .0

@@ -40,7 +40,12 @@ loop-less c = search needs
 
 loop-again : tie.Need-loop-again Inv-loop μ-loop
 unfolding ofBits
-loop-again c = (search needs, search needs, c .before .before .before .loop .inv .2 ∙ none-here (c .before .before .before .before .before .before .args .pitch .now) (c .before .before .before .loop .at) (c .before .before .loop-test .taken) (c .if1 .left))
+loop-again c = (
+  search needs,
+  search needs,
+  c .before .before .before .loop .inv .2 ∙ none-here (c .before .before .before .before .before .before .args .pitch .now)
+      (c .before .before .before .loop .at) (c .before .before .loop-test .taken) (c .if1 .left),
+)
 
 returns-2 : tie.Need-returns-2 Inv-loop μ-loop
 returns-2 c = record { from = search needs; within = search needs; same = c .before .loop .inv .2; here = λ h. absurd (omega arith) }

@@ -33,8 +33,9 @@ is-beyond-requires c κs = search needs
 returns : tie.Need-returns Inv-loop μ-loop
 unfolding firstBest
 returns c =
+    let start = c .before .before .before .before .before .before .before in
     let l = c .before .before .before .before .loop in
-    (seek-stop _ _ _ (l .inv) (unbeaten-test _ _ _ _ (c .before .before .before .before .before .before .before .pre .0) (c .before .before .before .before .before .before .before .pre .1) _ (c .before .before .before .before .before .furthest-between .ensures) (c .before .is-beyond .ensures) ∙ c .if1 .taken), (l .inv .low, l .inv .high))
+    (seek-stop _ _ _ (l .inv) (unbeaten-test _ _ _ _ (start .pre .0) (start .pre .1) _ (c .before .before .before .before .before .furthest-between .ensures) (c .before .is-beyond .ensures) ∙ c .if1 .taken), (l .inv .low, l .inv .high))
 
 add-i : tie.Need-add-i Inv-loop μ-loop
 add-i c = search needs
@@ -43,7 +44,11 @@ loop-less : tie.Need-loop-less Inv-loop μ-loop
 loop-less c = search needs
 
 loop-again : tie.Need-loop-again Inv-loop μ-loop
-loop-again c = seek-on _ _ _ (c .before .before .before .before .loop .inv) (c .before .before .before .loop-test .taken) (unbeaten-test _ _ _ _ (c .before .before .before .before .before .before .before .pre .0) (c .before .before .before .before .before .before .before .pre .1) _ (c .before .before .before .before .before .furthest-between .ensures) (c .before .is-beyond .ensures) ∙ c .if1 .left)
+loop-again c =
+    let start = c .before .before .before .before .before .before .before in
+    seek-on _ _ _ (c .before .before .before .before .loop .inv) (c .before .before .before .loop-test .taken)
+    (unbeaten-test _ _ _ _ (start .pre .0) (start .pre .1) _ (c .before .before .before .before .before .furthest-between .ensures)
+    (c .before .is-beyond .ensures) ∙ c .if1 .left)
 
 returns-2 : tie.Need-returns-2 Inv-loop μ-loop
 unfolding firstBest

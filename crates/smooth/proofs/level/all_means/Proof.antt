@@ -35,9 +35,10 @@ same-length-2 c = search needs
 
 returns-2 : tie.Need-returns-2
 returns-2 c =
-    let s = c .before .before .before .before .before .before .before .before .before .before .before .before .before .before .before in
+    let at-inner-means = c .before .before .before .before .before .before in
+    let s = at-inner-means .before .before .before .before .before .before .before .before .before in
     replaced-parts _ _ 2 (length (s .args .c .now) - 2) (length (s .args .c .now)) (omega arith) (omega arith) (sym (length-means (s .args .c .now))) (s .pre)
-    (c .before .before .before .before .before .before .before .before .before .before .some-means2 .ensures) (c .before .before .before .before .before .before .inner-means .ensures) (c .before .before .some-means3 .ensures)
+    (at-inner-means .before .before .before .before .some-means2 .ensures) (at-inner-means .inner-means .ensures) (c .before .before .some-means3 .ensures)
 
 pub all-means-spec : {M : Type 1} → statement M
 all-means-spec =

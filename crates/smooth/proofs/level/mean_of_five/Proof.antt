@@ -64,11 +64,17 @@ plain-zero-requires c κs = search needs
 
 returns : tie.Need-returns
 returns c =
-    let c₀ = c .before .before .before .before .before .before .before .args .c .now in
-    let i = c .before .before .before .before .before .before .before .args .i in
+    let start = c .before .before .before .before .before .before .before in
+    let c₀ = start .args .c .now in
+    let i = start .args .i in
     c .plain-zero .ensures
-    ∙ ap₂ (λ (z n : Float). plainZero (div binary32 (add binary32 (add binary32 (add binary32 (add binary32 (add binary32 z (getD c₀ (i - 2) nan)) (getD c₀ (i - 1) nan)) (getD c₀ i nan)) (getD c₀ (i + 1) nan)) (getD c₀ (i + 2) nan)) n)) (zero-bits binary32 false) number
-    ∙ five c₀ i (c .before .before .before .before .before .before .before .pre .0) (c .before .before .before .before .before .before .before .pre .1)
+    ∙ ap₂
+    (λ (z n : Float). plainZero
+    (div binary32
+    (add binary32
+    (add binary32 (add binary32 (add binary32 (add binary32 z (getD c₀ (i - 2) nan)) (getD c₀ (i - 1) nan)) (getD c₀ i nan))
+    (getD c₀ (i + 1) nan)) (getD c₀ (i + 2) nan)) n)) (zero-bits binary32 false) number
+    ∙ five c₀ i (start .pre .0) (start .pre .1)
 
 pub mean-of-five-spec : {M : Type 1} → statement M
 mean-of-five-spec =

@@ -17,7 +17,9 @@ slice-reshare-prefix-all-means : tie.Need-slice-reshare-prefix-all-means
 slice-reshare-prefix-all-means c = search needs
 
 slice-aggregate-all-means : tie.Need-slice-aggregate-all-means
-slice-aggregate-all-means c = sym (ap length (cleaned (c .before .before .before .before .before .before .before .before .args .db .now) _ _ (c .before .before .before .clean-all .ensures)) ∙ length-map (c .before .before .before .before .before .before .before .before .args .db .now) clean)
+slice-aggregate-all-means c =
+    let start = c .before .before .before .before .before .before .before .before in
+    sym (ap length (cleaned (start .args .db .now) _ _ (c .before .before .before .clean-all .ensures)) ∙ length-map (start .args .db .now) clean)
 
 all-means-requires : tie.Need-all-means-requires
 all-means-requires c κs =
@@ -32,7 +34,10 @@ same-length-2 c = search needs
 
 returns : tie.Need-returns
 unfolding levels
-returns c = c .before .before .all-means .ensures ∙ ap (λ (l : List Float). overlay (means l) (c .before .before .before .before .before .before .before .before .before .before .before .before .args .out .now)) (cleaned (c .before .before .before .before .before .before .before .before .before .before .before .before .args .db .now) _ _ (c .before .before .before .before .before .before .before .clean-all .ensures))
+returns c =
+    let at-clean-all = c .before .before .before .before .before .before .before in
+    let start = at-clean-all .before .before .before .before .before in
+    c .before .before .all-means .ensures ∙ ap (λ (l : List Float). overlay (means l) (start .args .out .now)) (cleaned (start .args .db .now) _ _ (at-clean-all .clean-all .ensures))
 
 pub smoothed-through-spec : {M : Type 1} → statement M
 smoothed-through-spec =

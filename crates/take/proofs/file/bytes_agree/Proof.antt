@@ -32,13 +32,19 @@ add-if3 : tie.Need-add-if3
 add-if3 c = search needs
 
 returns-3 : tie.Need-returns-3
-returns-3 c = sym (no-length _ _ (c .before .before .before .before .before .if1 .left) (c .before .before .before .if2 .left) (λ e. c .if3 .taken (c .before .before .word-at .ensures ∙ e ∙ ap (λ (n : ℕ). 15 + 17 * n) (sym (c .before .frames-in .ensures .0)))))
+returns-3 c =
+    sym
+    (no-length _ _ (c .before .before .before .before .before .if1 .left) (c .before .before .before .if2 .left)
+    (λ e. c .if3 .taken (c .before .before .word-at .ensures ∙ e ∙ ap (λ (n : ℕ). 15 + 17 * n) (sym (c .before .frames-in .ensures .0)))))
 
 add-result : tie.Need-add-result
 add-result c = search needs
 
 returns-4 : tie.Need-returns-4
-returns-4 c = ap (λ (n : ℕ). eqb (c .before .before .before .before .before .before .before .args .size) (4 + n)) (c .before .before .word-at .ensures) ∙ sym (then-size _ _ (c .before .before .before .before .before .if1 .left) (c .before .before .before .if2 .left) (sym (c .before .before .word-at .ensures) ∙ c .if3 .left ∙ ap (λ (n : ℕ). 15 + 17 * n) (c .before .frames-in .ensures .0)))
+returns-4 c =
+    ap (λ (n : ℕ). eqb (c .before .before .before .before .before .before .before .args .size) (4 + n)) (c .before .before .word-at .ensures) ∙ sym
+    (then-size _ _ (c .before .before .before .before .before .if1 .left) (c .before .before .before .if2 .left)
+    (sym (c .before .before .word-at .ensures) ∙ c .if3 .left ∙ ap (λ (n : ℕ). 15 + 17 * n) (c .before .frames-in .ensures .0)))
 
 pub bytes-agree-spec : {M : Type 1} → statement M
 bytes-agree-spec =

@@ -40,9 +40,15 @@ same-length-5 c = search needs
 
 returns : tie.Need-returns
 returns c =
-    let a = c .before .before .before .before .before .before .before .before .before .before .before .before .before .before .before .before .before .before .before .before .before .before .before .before .before .before .before .args in
-    let n = c .before .before .before .before .before .before .before .before .before .before .before .before .before .before .before .before .before .before .before .before .before .before .before .before .before .before .before .pre .1 in
-    whole-take (a .file .now) (length (a .db .now)) (length (a .pitch .now)) (length (a .voiced .now)) (length (a .sonority .now)) (length (a .vowel .now)) (c .read-settings .ensures) (c .before .before .before .before .before .before .before .before .before .before .before .before .before .before .before .before .before .before .before .read-track .ensures) (c .before .before .before .before .before .before .before .before .before .before .before .before .before .before .before .read-track2 .ensures) (c .before .before .before .before .before .before .before .before .before .before .before .read-track3 .ensures) (c .before .before .before .before .before .before .before .read-track4 .ensures) (c .before .before .before .read-marks .ensures) (n .0) (n .1) (n .2) (n .3) (n .4)
+    let at-read-track4 = c .before .before .before .before .before .before .before in
+    let at-read-track2 = at-read-track4 .before .before .before .before .before .before .before .before in
+    let start = at-read-track2 .before .before .before .before .before .before .before .before .before .before .before .before in
+    let a = start .args in
+    let n = start .pre .1 in
+    whole-take (a .file .now) (length (a .db .now)) (length (a .pitch .now)) (length (a .voiced .now)) (length (a .sonority .now))
+    (length (a .vowel .now)) (c .read-settings .ensures) (at-read-track2 .before .before .before .before .read-track .ensures)
+    (at-read-track2 .read-track2 .ensures) (at-read-track4 .before .before .before .before .read-track3 .ensures)
+    (at-read-track4 .read-track4 .ensures) (c .before .before .before .read-marks .ensures) (n .0) (n .1) (n .2) (n .3) (n .4)
 
 pub read-take-spec : {M : Type 1} → statement M
 read-take-spec =

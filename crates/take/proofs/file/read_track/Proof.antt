@@ -58,7 +58,9 @@ same-length : tie.Need-same-length Inv-loop μ-loop
 same-length c = search needs
 
 returns : tie.Need-returns Inv-loop μ-loop
-returns c = taking-end (λ (r : List ℕ). floatAt r (c .before .before .before .before .args .at)) (c .before .before .before .before .args .file .now) (c .before .before .before .before .args .track .now) (c .before .loop .i) (omega (arith, c .loop-test .left, c .before .loop .inv .1)) (c .before .loop .inv .4)
+returns c =
+    let start = c .before .before .before .before in
+    taking-end (λ (r : List ℕ). floatAt r (start .args .at)) (start .args .file .now) (start .args .track .now) (c .before .loop .i) (omega (arith, c .loop-test .left, c .before .loop .inv .1)) (c .before .loop .inv .4)
 
 pub read-track-spec : {M : Type 1} → statement M
 read-track-spec =

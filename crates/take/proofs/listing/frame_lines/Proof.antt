@@ -39,8 +39,9 @@ loop-less c = search needs
 
 loop-again : tie.Need-loop-again Inv-loop μ-loop
 loop-again c =
-    let a = c .before .before .before .before .before .before .before .before .before .before .args in
-    let l = c .before .before .before .before .before .before .loop in
+    let turn = c .before .before .before .before .before .before in
+    let a = turn .before .before .before .before .args in
+    let l = turn .loop in
     let h = c .before .before .before .before .before .loop-test .taken in
     let s = texts-step (frameLine (a .word .now)) (a .frames .now) (l .i) h in
     (omega (arith, h), putting-next (frameLine (a .word .now) (getD (a .frames .now) (l .i) 0)) (frameLines (a .word .now) (drop (l .i + 1) (a .frames .now))) (rw s at (l .inv .1)) (c .before .before .frame-line .ensures))
@@ -49,7 +50,9 @@ same-length : tie.Need-same-length Inv-loop μ-loop
 same-length c = putting-length (c .before .loop .inv .1)
 
 returns : tie.Need-returns Inv-loop μ-loop
-returns c = putting-end (rw (texts-over (frameLine (c .before .before .before .before .before .args .word .now)) (c .before .before .before .before .before .args .frames .now) (c .before .loop .i) (c .loop-test .left)) at (c .before .loop .inv .1))
+returns c =
+    let start = c .before .before .before .before .before in
+    putting-end (rw (texts-over (frameLine (start .args .word .now)) (start .args .frames .now) (c .before .loop .i) (c .loop-test .left)) at (c .before .loop .inv .1))
 
 pub frame-lines-spec : {M : Type 1} → statement M
 frame-lines-spec =

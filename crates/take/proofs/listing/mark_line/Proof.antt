@@ -15,27 +15,38 @@ push-requires c κs =
 
 push-number-requires : tie.Need-push-number-requires
 push-number-requires c κs =
-    let i = decimal (c .before .before .before .before .before .before .before .args .frame) in
-    let b = hex (toBits binary32 (c .before .before .before .before .before .before .before .args .x)) in
-    room-first (32 ∷ i) (afterWord (b ∷ [])) _ _ (room-next (afterWord (i ∷ b ∷ [])) (c .before .before .before .push .ensures) (c .before .before .before .before .before .before .before .pre))
+    let start = c .before .before .before .before .before .before .before in
+    let i = decimal (start .args .frame) in
+    let b = hex (toBits binary32 (start .args .x)) in
+    room-first (32 ∷ i) (afterWord (b ∷ [])) _ _ (room-next (afterWord (i ∷ b ∷ [])) (c .before .before .before .push .ensures) (start .pre))
 
 push-bits-requires : tie.Need-push-bits-requires
 push-bits-requires c κs =
-    let i = decimal (c .before .before .before .before .before .before .before .before .before .before .before .args .frame) in
-    let b = hex (toBits binary32 (c .before .before .before .before .before .before .before .before .before .before .before .args .x)) in
-    room-first (32 ∷ b) (10 ∷ []) _ _ (room-next (afterWord (b ∷ [])) (c .before .before .before .push-number .ensures) (room-next (afterWord (i ∷ b ∷ [])) (c .before .before .before .before .before .before .before .push .ensures) (c .before .before .before .before .before .before .before .before .before .before .before .pre)))
+    let at-push = c .before .before .before .before .before .before .before in
+    let start = at-push .before .before .before .before in
+    let i = decimal (start .args .frame) in
+    let b = hex (toBits binary32 (start .args .x)) in
+    room-first (32 ∷ b) (10 ∷ []) _ _ (room-next (afterWord (b ∷ [])) (c .before .before .before .push-number .ensures) (room-next (afterWord (i ∷ b ∷ [])) (at-push .push .ensures) (start .pre)))
 
 push-byte-requires : tie.Need-push-byte-requires
 push-byte-requires c κs =
-    let i = decimal (c .before .before .before .before .before .before .before .before .before .before .before .before .before .before .before .args .frame) in
-    let b = hex (toBits binary32 (c .before .before .before .before .before .before .before .before .before .before .before .before .before .before .before .args .x)) in
-    room-next (10 ∷ []) (c .before .before .before .push-bits .ensures) (room-next (afterWord (b ∷ [])) (c .before .before .before .before .before .before .before .push-number .ensures) (room-next (afterWord (i ∷ b ∷ [])) (c .before .before .before .before .before .before .before .before .before .before .before .push .ensures) (c .before .before .before .before .before .before .before .before .before .before .before .before .before .before .before .pre)))
+    let at-push-number = c .before .before .before .before .before .before .before in
+    let start = at-push-number .before .before .before .before .before .before .before .before in
+    let i = decimal (start .args .frame) in
+    let b = hex (toBits binary32 (start .args .x)) in
+    room-next (10 ∷ []) (c .before .before .before .push-bits .ensures)
+    (room-next (afterWord (b ∷ [])) (at-push-number .push-number .ensures)
+    (room-next (afterWord (i ∷ b ∷ [])) (at-push-number .before .before .before .before .push .ensures) (start .pre)))
 
 same-length : tie.Need-same-length
 same-length c = search needs
 
 returns : tie.Need-returns
-returns c = put-then (c .before .before .before .before .before .before .before .before .before .before .before .before .before .before .push .ensures) (put-then (c .before .before .before .before .before .before .before .before .before .before .push-number .ensures) (put-then (c .before .before .before .before .before .before .push-bits .ensures) (c .before .before .push-byte .ensures)))
+returns c =
+    let at-push-bits = c .before .before .before .before .before .before in
+    put-then (at-push-bits .before .before .before .before .before .before .before .before .push .ensures)
+    (put-then (at-push-bits .before .before .before .before .push-number .ensures)
+    (put-then (at-push-bits .push-bits .ensures) (c .before .before .push-byte .ensures)))
 
 pub mark-line-spec : {M : Type 1} → statement M
 mark-line-spec =

@@ -49,18 +49,26 @@ loop-less c = search needs
 
 loop-again : tie.Need-loop-again Inv-loop μ-loop
 loop-again c =
-    let a = c .before .before .before .before .before .before .before .before .before .before .before .before .args in
-    let l = c .before .before .before .before .before .before .before .loop in
+    let at-loop-test = c .before .before .before .before .before .before in
+    let a = at-loop-test .before .before .before .before .before .before .args in
+    let l = at-loop-test .before .loop in
     let w = a .word .now in
-    let h = c .before .before .before .before .before .before .loop-test .taken in
-    let s = marks-step w (a .frames .now) (a .strengths .now) (l .i) h (omega (arith, h, l .inv .1)) in
-    (omega (arith, h), l .inv .1, putting-next (markLine w (getD (a .frames .now) (l .i) 0) (getD (a .strengths .now) (l .i) nan)) (markLines w (drop (l .i + 1) (a .frames .now)) (drop (l .i + 1) (a .strengths .now))) (rw s at (l .inv .2)) (c .before .before .mark-line .ensures))
+    let h = at-loop-test .loop-test .taken in
+    let s = marks-step w (a .frames .now) (a .strengths .now) (l .i) h (omega (arith, h, l .inv .1)) in (
+      omega (arith, h),
+      l .inv .1,
+      putting-next (markLine w (getD (a .frames .now) (l .i) 0) (getD (a .strengths .now) (l .i) nan))
+          (markLines w (drop (l .i + 1) (a .frames .now)) (drop (l .i + 1) (a .strengths .now))) (rw s at (l .inv .2))
+          (c .before .before .mark-line .ensures),
+    )
 
 same-length : tie.Need-same-length Inv-loop μ-loop
 same-length c = putting-length (c .before .loop .inv .2)
 
 returns : tie.Need-returns Inv-loop μ-loop
-returns c = putting-end (rw (marks-over (c .before .before .before .before .before .before .args .word .now) (c .before .before .before .before .before .before .args .frames .now) (c .before .before .before .before .before .before .args .strengths .now) (c .before .loop .i) (c .loop-test .left)) at (c .before .loop .inv .2))
+returns c =
+    let start = c .before .before .before .before .before .before in
+    putting-end (rw (marks-over (start .args .word .now) (start .args .frames .now) (start .args .strengths .now) (c .before .loop .i) (c .loop-test .left)) at (c .before .loop .inv .2))
 
 pub mark-lines-spec : {M : Type 1} → statement M
 mark-lines-spec =

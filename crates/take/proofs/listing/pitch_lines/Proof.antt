@@ -22,8 +22,13 @@ abbrev μ-loop : tie.MeasureT-loop
 loop-holds : tie.Need-loop-holds Inv-loop μ-loop
 loop-holds c =
     let a = c .before .before .before .args in
-    let p = putting-start (pitchLines (a .given .now) (a .left .now)) (a .out .now) (a .at) (c .before .before .before .pre .1) in
-    (zero-le, c .before .before .before .pre .0 .0, c .before .before .before .pre .0 .1, subst (λ (r : List ℕ). Putting (pitchLines (a .given .now) (a .left .now)) r (a .at) (a .out .now) (a .out .now) (a .at)) (pitches-start (a .given .now) (a .left .now)) p)
+    let p = putting-start (pitchLines (a .given .now) (a .left .now)) (a .out .now) (a .at) (c .before .before .before .pre .1) in (
+      zero-le,
+      c .before .before .before .pre .0 .0,
+      c .before .before .before .pre .0 .1,
+      subst (λ (r : List ℕ). Putting (pitchLines (a .given .now) (a .left .now)) r (a .at) (a .out .now) (a .out .now) (a .at))
+          (pitches-start (a .given .now) (a .left .now)) p,
+    )
 
 mul-pitch-line : tie.Need-mul-pitch-line Inv-loop μ-loop
 mul-pitch-line c = search needs
@@ -42,10 +47,14 @@ cast-pitch-line c = search needs
 
 pitch-line-requires : tie.Need-pitch-line-requires Inv-loop μ-loop
 pitch-line-requires c κs =
-    let g = c .before .before .before .before .before .before .before .before .args .given .now in
-    let f = c .before .before .before .before .before .before .before .before .args .left .now in
+    let start = c .before .before .before .before .before .before .before .before in
+    let g = start .args .given .now in
+    let f = start .args .left .now in
     let l = c .before .before .before .before .loop in
-    putting-room (cond (repitched (getD g (l .i) nan) (getD f (l .i) nan)) (markLine pitchWord (l .i) (getD f (l .i) nan)) []) (pitchesFrom g f (l .i + 1)) (subst (λ (r : List ℕ). Putting (pitchLines g f) r (c .before .before .before .before .before .before .before .before .args .at) (c .before .before .before .before .before .before .before .before .args .out .now) (l .out) (l .k)) (pitches-step g f (l .i) (c .before .before .before .loop-test .taken)) (l .inv .3))
+    putting-room (cond (repitched (getD g (l .i) nan) (getD f (l .i) nan)) (markLine pitchWord (l .i) (getD f (l .i) nan)) [])
+    (pitchesFrom g f (l .i + 1))
+    (subst (λ (r : List ℕ). Putting (pitchLines g f) r (start .args .at) (start .args .out .now) (l .out) (l .k))
+    (pitches-step g f (l .i) (c .before .before .before .loop-test .taken)) (l .inv .3))
 
 add-i : tie.Need-add-i Inv-loop μ-loop
 add-i c = search needs
@@ -55,11 +64,20 @@ loop-less c = search needs
 
 loop-again : tie.Need-loop-again Inv-loop μ-loop
 loop-again c =
-    let g = c .before .before .before .before .before .before .before .before .before .before .before .args .given .now in
-    let f = c .before .before .before .before .before .before .before .before .before .before .before .args .left .now in
-    let l = c .before .before .before .before .before .before .before .loop in
-    let h = c .before .before .before .before .before .before .loop-test .taken in
-    (omega (arith, h), l .inv .1, l .inv .2, putting-next (cond (repitched (getD g (l .i) nan) (getD f (l .i) nan)) (markLine pitchWord (l .i) (getD f (l .i) nan)) []) (pitchesFrom g f (l .i + 1)) (subst (λ (r : List ℕ). Putting (pitchLines g f) r (c .before .before .before .before .before .before .before .before .before .before .before .args .at) (c .before .before .before .before .before .before .before .before .before .before .before .args .out .now) (l .out) (l .k)) (pitches-step g f (l .i) h) (l .inv .3)) (c .before .before .pitch-line .ensures))
+    let at-loop-test = c .before .before .before .before .before .before in
+    let start = at-loop-test .before .before .before .before .before in
+    let g = start .args .given .now in
+    let f = start .args .left .now in
+    let l = at-loop-test .before .loop in
+    let h = at-loop-test .loop-test .taken in (
+      omega (arith, h),
+      l .inv .1,
+      l .inv .2,
+      putting-next (cond (repitched (getD g (l .i) nan) (getD f (l .i) nan)) (markLine pitchWord (l .i) (getD f (l .i) nan)) [])
+          (pitchesFrom g f (l .i + 1))
+          (subst (λ (r : List ℕ). Putting (pitchLines g f) r (start .args .at) (start .args .out .now) (l .out) (l .k)) (pitches-step g f (l .i) h)
+          (l .inv .3)) (c .before .before .pitch-line .ensures),
+    )
 
 same-length : tie.Need-same-length Inv-loop μ-loop
 same-length c = putting-length (c .before .loop .inv .3)

@@ -44,12 +44,17 @@ push-decimal-same-length : (t : ℕ) → push-decimal-lts.Need-same-length (clai
 push-decimal-same-length t c = search needs
 
 push-decimal-returns : (t : ℕ) → push-decimal-lts.Need-returns (claims t) (push-decimal-at t) push-decimal.Post
-push-decimal-returns t c = rw (decimal-digit (c .before .before .before .before .before .before .before .args .n) (c .before .before .before .before .before .if1 .taken)) (rw (c .before .before .before .digit .ensures) at (c .before .before .push-byte .ensures))
+push-decimal-returns t c =
+    rw (decimal-digit (c .before .before .before .before .before .before .before .args .n) (c .before .before .before .before .before .if1 .taken))
+    (rw (c .before .before .before .digit .ensures) at (c .before .before .push-byte .ensures))
 
 push-decimal-push-decimal-requires : (t : ℕ) → push-decimal-lts.Need-push-decimal-requires (claims t) (push-decimal-at t) push-decimal.Post
 push-decimal-push-decimal-requires t c κs =
-    let a = c .before .before .before .args in
-    (omega (arith, c .before .before .before .pre .0, c .before .if1 .left), room-first (decimal (a .n / 10)) (glyph (a .n % 10) ∷ []) _ _ (rw (decimal-step (a .n) (c .before .if1 .left) (omega arith)) at (c .before .before .before .pre .1)))
+    let a = c .before .before .before .args in (
+      omega (arith, c .before .before .before .pre .0, c .before .if1 .left),
+      room-first (decimal (a .n / 10)) (glyph (a .n % 10) ∷ []) _ _
+          (rw (decimal-step (a .n) (c .before .if1 .left) (omega arith)) at (c .before .before .before .pre .1)),
+    )
 
 push-decimal-digit-requires-2 : (t : ℕ) → push-decimal-lts.Need-digit-requires-2 (claims t) (push-decimal-at t) push-decimal.Post
 push-decimal-digit-requires-2 t c κs = omega arith
@@ -57,7 +62,9 @@ push-decimal-digit-requires-2 t c κs = omega arith
 push-decimal-push-byte-requires-2 : (t : ℕ) → push-decimal-lts.Need-push-byte-requires-2 (claims t) (push-decimal-at t) push-decimal.Post
 push-decimal-push-byte-requires-2 t c κs =
     let a = c .before .before .before .before .before .before .before .before .args in
-    room-next (glyph (a .n % 10) ∷ []) (c .before .before .before .before .push-decimal .ensures) (rw (decimal-step (a .n) (c .before .before .before .before .before .before .if1 .left) (omega arith)) at (c .before .before .before .before .before .before .before .before .pre .1))
+    room-next (glyph (a .n % 10) ∷ []) (c .before .before .before .before .push-decimal .ensures)
+    (rw (decimal-step (a .n) (c .before .before .before .before .before .before .if1 .left) (omega arith)) at
+    (c .before .before .before .before .before .before .before .before .pre .1))
 
 push-decimal-same-length-2 : (t : ℕ) → push-decimal-lts.Need-same-length-2 (claims t) (push-decimal-at t) push-decimal.Post
 push-decimal-same-length-2 t c = search needs
@@ -65,7 +72,9 @@ push-decimal-same-length-2 t c = search needs
 push-decimal-returns-2 : (t : ℕ) → push-decimal-lts.Need-returns-2 (claims t) (push-decimal-at t) push-decimal.Post
 push-decimal-returns-2 t c =
     let a = c .before .before .before .before .before .before .before .before .before .before .before .args in
-    rw (decimal-step (a .n) (c .before .before .before .before .before .before .before .before .before .if1 .left) (omega arith)) (put-then (c .before .before .before .before .before .before .before .push-decimal .ensures) (rw (c .before .before .before .digit2 .ensures) at (c .before .before .push-byte2 .ensures)))
+    rw (decimal-step (a .n) (c .before .before .before .before .before .before .before .before .before .if1 .left) (omega arith))
+    (put-then (c .before .before .before .before .before .before .before .push-decimal .ensures)
+    (rw (c .before .before .before .digit2 .ensures) at (c .before .before .push-byte2 .ensures)))
 
 pub +push-decimal-spec : {M : Type 1} → statement M
 +push-decimal-spec = close μ-push-decimal λ t. push-decimal-lts.spec (claims t)

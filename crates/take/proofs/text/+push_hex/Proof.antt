@@ -50,7 +50,9 @@ push-hex-digit-requires t c κs = omega arith
 push-hex-push-byte-requires : (t : ℕ) → push-hex-lts.Need-push-byte-requires (claims t) (push-hex-at t) push-hex.Post
 push-hex-push-byte-requires t c κs =
     let a = c .before .before .before .before .before .before .before .before .args in
-    room-next (glyph (a .n % 16) ∷ []) (c .before .before .before .before .push-hex .ensures) (rw (hex-step (a .k) (a .n) (c .before .before .before .before .before .before .if1 .left)) at (c .before .before .before .before .before .before .before .before .pre .1))
+    room-next (glyph (a .n % 16) ∷ []) (c .before .before .before .before .push-hex .ensures)
+    (rw (hex-step (a .k) (a .n) (c .before .before .before .before .before .before .if1 .left)) at
+    (c .before .before .before .before .before .before .before .before .pre .1))
 
 push-hex-same-length : (t : ℕ) → push-hex-lts.Need-same-length (claims t) (push-hex-at t) push-hex.Post
 push-hex-same-length t c = search needs
@@ -58,7 +60,9 @@ push-hex-same-length t c = search needs
 push-hex-returns-2 : (t : ℕ) → push-hex-lts.Need-returns-2 (claims t) (push-hex-at t) push-hex.Post
 push-hex-returns-2 t c =
     let a = c .before .before .before .before .before .before .before .before .before .before .before .args in
-    rw (hex-step (a .k) (a .n) (c .before .before .before .before .before .before .before .before .before .if1 .left)) (put-then (c .before .before .before .before .before .before .before .push-hex .ensures) (rw (c .before .before .before .digit .ensures) at (c .before .before .push-byte .ensures)))
+    rw (hex-step (a .k) (a .n) (c .before .before .before .before .before .before .before .before .before .if1 .left))
+    (put-then (c .before .before .before .before .before .before .before .push-hex .ensures)
+    (rw (c .before .before .before .digit .ensures) at (c .before .before .push-byte .ensures)))
 
 pub +push-hex-spec : {M : Type 1} → statement M
 +push-hex-spec = close μ-push-hex λ t. push-hex-lts.spec (claims t)

@@ -14,7 +14,9 @@ to-bits-requires : tie.Need-to-bits-requires
 to-bits-requires c κs = search needs
 
 push-hex-requires : tie.Need-push-hex-requires
-push-hex-requires c κs = rw (c .to-bits .ensures) (room-next (hex (toBits binary32 (c .before .before .before .before .before .before .before .args .x))) (c .before .before .before .before .push-byte .ensures) (c .before .before .before .before .before .before .before .pre))
+push-hex-requires c κs =
+    let start = c .before .before .before .before .before .before .before in
+    rw (c .to-bits .ensures) (room-next (hex (toBits binary32 (start .args .x))) (c .before .before .before .before .push-byte .ensures) (start .pre))
 
 same-length : tie.Need-same-length
 same-length c = search needs

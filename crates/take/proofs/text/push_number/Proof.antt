@@ -10,7 +10,9 @@ push-byte-requires : tie.Need-push-byte-requires
 push-byte-requires c κs = room-first (32 ∷ []) (decimal (c .before .before .args .n)) _ _ (c .before .before .pre)
 
 push-decimal-requires : tie.Need-push-decimal-requires
-push-decimal-requires c κs = room-next (decimal (c .before .before .before .before .before .before .args .n)) (c .before .before .before .push-byte .ensures) (c .before .before .before .before .before .before .pre)
+push-decimal-requires c κs =
+    let start = c .before .before .before .before .before .before in
+    room-next (decimal (start .args .n)) (c .before .before .before .push-byte .ensures) (start .pre)
 
 same-length : tie.Need-same-length
 same-length c = search needs
