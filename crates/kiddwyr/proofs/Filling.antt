@@ -10,7 +10,7 @@ use lib.Seq.{drop-cons, set-at}
 use Rattle.lists.specs.Results.{overlay}
 use Rattle.kiddwyr.specs.declared.Nucleus.{Nucleus}
 use Rattle.kiddwyr.specs.Records.{framesIn}
-use Rattle.kiddwyr.specs.Within.{paired}
+use Rattle.kiddwyr.specs.Copied.{paired}
 
 -- what stands past the end of a list of records
 abbrev pub blank : Nucleus

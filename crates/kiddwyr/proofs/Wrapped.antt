@@ -1,19 +1,22 @@
 -- What an entry over records promises, from what its functions over plain lists do: the frames that it reads, its scratch lists, and what it fills. Assumes nothing.
-use Prim.Native.Nat.{ℕ, _≤_}
-use mathlib.Core.Path.{_≡_, ap, _∙_}
-use mathlib.Core.List.{List}
-use lib.ListN.{length, take, replicate, length-replicate}
+use Prim.Native.Nat.{ℕ, suc, _≤_}
+use native.Mathlib.Omega.{arith}
+use mathlib.Core.Path.{_≡_, refl, sym, ap, ap₂, _∙_}
+use mathlib.Core.List.{List, [], _∷_}
+use lib.ListN.{length, take, replicate, length-replicate, length-take}
 use lib.Ieee.{Float}
+use Rattle.lists.specs.Results.{overlay, Listed}
 use Rattle.lists.proofs.Fill.{listed-take, relisted}
 use Rattle.region.specs.declared.Settings.{Settings}
 use Rattle.nuclei.specs.Nuclei as found
+use Rattle.nuclei.specs.Nuclei.{framesOf, strengthsOf}
 use Rattle.entries.specs.Stages.{BoundariesCall, BoundariesWithCall}
 use Rattle.entries.specs.declared.stages.Answer.{Answer}
 use Rattle.entries.specs.declared.stages.Counted.{Counted}
+use Rattle.within.specs.Within.{Scratch, Laid, ExtrasWithin}
 use Rattle.kiddwyr.specs.declared.Nucleus.{Nucleus}
-use Rattle.kiddwyr.specs.Records.{recordsOf, framesIn, ExtrasCall}
-use Rattle.kiddwyr.specs.Within.{Filled, FramesTaken, Scratch, Laid, ExtrasWithin}
-use Rattle.kiddwyr.proofs.Rooms.{laid-listed}
+use Rattle.kiddwyr.specs.Records.{recordOf, recordsOf, framesIn, ExtrasCall}
+use Rattle.kiddwyr.specs.Copied.{paired, Filled, FramesTaken}
 use Rattle.kiddwyr.proofs.Given.{extras-given, extras-given-found, edges-given-found, with-given, with-given-found, bounds-given, bounds-given-found}
 
 -- arrays of one value, as the walks make them
@@ -23,6 +26,22 @@ scratch f s = (length-replicate 2048 f, length-replicate 2048 s)
 -- what is laid can be copied
 pub laid-room : {ns : List found.Nucleus} {f : List ℕ} {s : List Float} {room r : ℕ} → Laid ns f s room r → (r ≤ length f) × (r ≤ length s) × (r ≤ room)
 laid-room l = (l .framed .within, l .strong .within, l .fits)
+
+-- and is the records
+long-frames : (ns : List found.Nucleus) → length (framesOf ns) ≡ length (recordsOf ns)
+long-frames [] = refl
+long-frames (n ∷ ns) = ap suc (long-frames ns)
+
+pair-up : (ns : List found.Nucleus) → paired (framesOf ns) (strengthsOf ns) ≡ recordsOf ns
+pair-up [] = refl
+pair-up (n ∷ ns) = ap (λ (t : List Nucleus). recordOf n ∷ t) (pair-up ns)
+
+pub laid-listed : {ns : List found.Nucleus} {f : List ℕ} {s : List Float} {room r : ℕ} {old new : List Nucleus} → Laid ns f s room r → new ≡ overlay (paired (take r f) (take r s)) old → Listed (recordsOf ns) old new r
+laid-listed {ns} {f} {s} {room} {r} {old} l e =
+    record {
+      count = sym (length-take r f ∙ omega (arith, l .framed .within)) ∙ ap length (l .framed .entries) ∙ long-frames ns;
+      entries = e ∙ ap (λ (t : List Nucleus). overlay t old) (ap₂ paired (l .framed .entries) (l .strong .entries) ∙ pair-up ns);
+    }
 
 -- ---- around the frames of nuclei: `given` holds them after `take_frames`
 module _ (nuclei : List Nucleus) (blank : ℕ) {given : List ℕ} {count : ℕ} (taken : FramesTaken nuclei (replicate 2049 blank) given count) where

@@ -1,31 +1,29 @@
 // The entries under their C names, over nucleus records: each copies between a lent list of records and plain lists of its
 // own, and leaves the rest to the entry over plain lists.
 ghost use mathlib.Core.Path.{_≡_};
-ghost use Prim.Native.Nat.{_≤_, min};
-ghost use lib.ListN.{length, take};
+ghost use Prim.Native.Nat.{_≤_};
+ghost use lib.ListN.{length};
 ghost use Rattle.entries.specs.Stages.{MarksCall, RegionCall, RepairCall, RecoverCall, BoundariesWithCall, BoundariesCall};
-ghost use Rattle.chain.specs.Chain as plain;
 ghost use Rattle.chain.specs.Chain.{takeOf};
 ghost use Rattle.kiddwyr.specs.Records.{framesIn, listsOf, NucleiCall, ExtrasCall, ChainCall};
-ghost use Rattle.kiddwyr.specs.Within.{Filled, FramesTaken, Scratch, NucleiWithin, ExtrasWithin, ChainWithin};
+ghost use Rattle.kiddwyr.specs.Copied.{Filled, FramesTaken};
 use chain::Marks;
 use entries::stages::Answer;
 use entries::stages::Counted;
 use entries::stages::Spanned;
+use lists::sizes::smaller;
 use region::Settings;
+use within::boundaries_given;
+use within::boundaries_with_given;
+use within::chain_within;
+use within::extras_within;
+use within::nuclei_within;
 
 // A nucleus: its frame, and its level over the floor in dB.
 #[repr(C)]
 pub struct Nucleus {
     pub frame: u32,
     pub strength: f32,
-}
-
-// The smaller of two numbers.
-fn smaller(a: usize, b: usize) -> usize
-    ensures { λ r. ⌜ r ≡ min a b ⌝ }
-{
-    if a < b { a } else { b }
 }
 
 // Writes the first count frames and strengths as records at the front of a list.
@@ -56,33 +54,6 @@ fn take_frames(nuclei: &[Nucleus], frames: &mut [u32]) -> usize
     count
 }
 
-// The nuclei of start..end in two lists, refused as a list of room records would be. No take has more than 2,048.
-fn nuclei_within(
-    db: &[f32],
-    pitch: &[f32],
-    start: usize,
-    end: usize,
-    p: Settings,
-    frames: &mut [u32],
-    strengths: &mut [f32],
-    room: usize,
-) -> Answer
-    requires { ⌜ Scratch (now frames) (now strengths) ⌝ }
-    ensures { λ r. ⌜ NucleiWithin (now (db .entry)) (now (pitch .entry)) start end p room (now (frames .exit))
-        (now (strengths .exit)) r ⌝ }
-{
-    let k = smaller(room, 2048);
-    entries::stages::nuclei(
-        db,
-        pitch,
-        start,
-        end,
-        p,
-        &mut frames[..k],
-        &mut strengths[..k],
-    )
-}
-
 // Writes the nuclei of start..end.
 #[no_mangle]
 pub extern "C" fn kiddwyr_nuclei(
@@ -109,41 +80,6 @@ pub extern "C" fn kiddwyr_nuclei(
     );
     fill_nuclei(&frames, &strengths, answer.count, list);
     answer
-}
-
-// The extra candidates in two lists, around the first count frames of a third, refused as a list of room records would be.
-fn extras_within(
-    db: &[f32],
-    pitch: &[f32],
-    sonority: &[f32],
-    start: usize,
-    end: usize,
-    given: &[u32],
-    count: usize,
-    p: Settings,
-    edges: &mut [u32],
-    frames: &mut [u32],
-    strengths: &mut [f32],
-    room: usize,
-) -> Counted
-    requires { ⌜ (count ≤ length (now given)) × Scratch (now frames) (now strengths) ⌝ }
-    ensures { λ r. ⌜ ExtrasWithin (now (db .entry)) (now (pitch .entry)) (now (sonority .entry)) start end
-        (take count (now (given .entry))) p room (now (frames .exit)) (now (strengths .exit)) (now (edges .entry))
-        (now (edges .exit)) r ⌝ }
-{
-    let k = smaller(room, 2048);
-    entries::stages::extras(
-        db,
-        pitch,
-        sonority,
-        start,
-        end,
-        &given[..count],
-        p,
-        &mut frames[..k],
-        &mut strengths[..k],
-        edges,
-    )
 }
 
 // Writes the extra candidates around nuclei, and their edges. One frame more than is admitted is looked at, so that too
@@ -185,25 +121,6 @@ pub extern "C" fn kiddwyr_extras(
     counted
 }
 
-// The boundaries of start..end under given settings, around the first count frames of a list.
-fn boundaries_with_given(
-    db: &[f32],
-    pitch: &[f32],
-    voiced: &[f32],
-    start: usize,
-    end: usize,
-    given: &[u32],
-    count: usize,
-    p: Settings,
-    out: &mut [u32],
-) -> Answer
-    requires { ⌜ count ≤ length (now given) ⌝ }
-    ensures { λ r. ⌜ BoundariesWithCall (now (db .entry)) (now (pitch .entry)) (now (voiced .entry)) start end
-        (take count (now (given .entry))) p (now (out .entry)) (now (out .exit)) r ⌝ }
-{
-    entries::stages::boundaries_with(db, pitch, voiced, start, end, &given[..count], p, out)
-}
-
 // The boundaries of start..end under given settings, around nuclei.
 #[no_mangle]
 pub extern "C" fn kiddwyr_boundaries_with(
@@ -224,24 +141,6 @@ pub extern "C" fn kiddwyr_boundaries_with(
     boundaries_with_given(db, pitch, voiced, start, end, &given, count, p, out)
 }
 
-// The boundaries of start..end under the defaults, around the first count frames of a list.
-fn boundaries_given(
-    db: &[f32],
-    pitch: &[f32],
-    voiced: &[f32],
-    start: usize,
-    end: usize,
-    given: &[u32],
-    count: usize,
-    out: &mut [u32],
-) -> Answer
-    requires { ⌜ count ≤ length (now given) ⌝ }
-    ensures { λ r. ⌜ BoundariesCall (now (db .entry)) (now (pitch .entry)) (now (voiced .entry)) start end
-        (take count (now (given .entry))) (now (out .entry)) (now (out .exit)) r ⌝ }
-{
-    entries::stages::boundaries(db, pitch, voiced, start, end, &given[..count], out)
-}
-
 // The boundaries of start..end under the defaults, around nuclei.
 #[no_mangle]
 pub extern "C" fn kiddwyr_boundaries(
@@ -259,51 +158,6 @@ pub extern "C" fn kiddwyr_boundaries(
     let mut given = [0u32; 2049];
     let count = take_frames(nuclei, &mut given);
     boundaries_given(db, pitch, voiced, start, end, &given, count, out)
-}
-
-// The chain over plain lists, refused as lists of room and xroom records would be.
-fn chain_within(
-    db: &[f32],
-    pitch: &mut [f32],
-    voiced: &[f32],
-    sonority: &[f32],
-    vowel: &[u8],
-    samples: &[i16],
-    p: Settings,
-    edges: &mut [u32],
-    bounds: &mut [u32],
-    frames: &mut [u32],
-    strengths: &mut [f32],
-    xframes: &mut [u32],
-    xstrengths: &mut [f32],
-    room: usize,
-    xroom: usize,
-) -> Marks
-    requires { ⌜ Scratch (now frames) (now strengths) × Scratch (now xframes) (now xstrengths) ⌝ }
-    ensures { λ r. ⌜ ChainWithin
-        (takeOf (now (db .entry)) (now (pitch .entry)) (now (voiced .entry)) (now (sonority .entry)) (now (vowel .entry))
-        (now (samples .entry)) p) room xroom (now (edges .entry)) (now (bounds .entry))
-        (plain.listsOf (now (frames .exit)) (now (strengths .exit)) (now (xframes .exit)) (now (xstrengths .exit))
-        (now (edges .exit)) (now (bounds .exit)))
-        (now (pitch .exit)) r ⌝ }
-{
-    let k = smaller(room, 2048);
-    let x = smaller(xroom, 2048);
-    chain::chain(
-        db,
-        pitch,
-        voiced,
-        sonority,
-        vowel,
-        samples,
-        p,
-        &mut frames[..k],
-        &mut strengths[..k],
-        &mut xframes[..x],
-        &mut xstrengths[..x],
-        edges,
-        bounds,
-    )
 }
 
 // The whole chain. A call is refused by the lowest number that applies, and then changes nothing; else pitches are

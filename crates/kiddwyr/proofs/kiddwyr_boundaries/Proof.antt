@@ -50,10 +50,10 @@ use Rattle.kiddwyr.proofs.take_frames as take-frames
 use Rattle.kiddwyr.proofs.take_frames.Symbol as take-frames-def
 use Rattle.kiddwyr.proofs.take_frames.Symbol.{name as #take-frames}
 use Rattle.kiddwyr.proofs.take_frames.Met as take-frames-thm
-use Rattle.kiddwyr.proofs.boundaries_given as boundaries-given
-use Rattle.kiddwyr.proofs.boundaries_given.Symbol as boundaries-given-def
-use Rattle.kiddwyr.proofs.boundaries_given.Symbol.{name as #boundaries-given}
-use Rattle.kiddwyr.proofs.boundaries_given.Met as boundaries-given-thm
+use Rattle.within.proofs.boundaries_given as boundaries-given
+use Rattle.within.proofs.boundaries_given.Symbol as boundaries-given-def
+use Rattle.within.proofs.boundaries_given.Symbol.{name as #boundaries-given}
+use Rattle.within.proofs.boundaries_given.Met as boundaries-given-thm
 use Rattle.kiddwyr.proofs.kiddwyr_boundaries.Key.{name as #self}
 use Rattle.kiddwyr.proofs.kiddwyr_boundaries as f
 use Rattle.kiddwyr.proofs.kiddwyr_boundaries.Statement as stated
@@ -158,4 +158,4 @@ kiddwyr-boundaries-spec 𝓤 H 𝓜 𝓖 𝓡 =
     (walk-meets 𝓤 H A f.ended stayed W (goes 𝓤 H A W (𝓜 .mem) (𝓡 .run)) (f.clauses 𝓤 H A (𝓜 .mem) (𝓡 .run)) (WpFn 𝓤 H (𝓣 .C) (𝓣 .Λ) code.function) (WpFn-mono 𝓤 H (W .laws) 𝓣 code.function)
     (walks 𝓤 H A W (𝓜 .mem) (𝓡 .run) 𝓣
     (cited 𝓤 H (Met W take-frames.ended (take-frames.clauses 𝓤 H A (𝓜 .mem) (𝓡 .run))) 𝓜 𝓡 code.env #take-frames take-frames-def.routine code.calls-kiddwyr·take-frames (take-frames-thm.met 𝓤 H 𝓜 𝓖 𝓡))
-    (cited 𝓤 H (Met W boundaries-given.ended (boundaries-given.clauses 𝓤 H A (𝓜 .mem) (𝓡 .run))) 𝓜 𝓡 code.env #boundaries-given boundaries-given-def.routine code.calls-kiddwyr·boundaries-given (boundaries-given-thm.met 𝓤 H 𝓜 𝓖 𝓡))))
+    (cited 𝓤 H (Met W boundaries-given.ended (boundaries-given.clauses 𝓤 H A (𝓜 .mem) (𝓡 .run))) 𝓜 𝓡 code.env #boundaries-given boundaries-given-def.routine code.calls-within·boundaries-given (boundaries-given-thm.met 𝓤 H 𝓜 𝓖 𝓡))))

@@ -53,10 +53,10 @@ use Rattle.kiddwyr.proofs.take_frames as take-frames
 use Rattle.kiddwyr.proofs.take_frames.Symbol as take-frames-def
 use Rattle.kiddwyr.proofs.take_frames.Symbol.{name as #take-frames}
 use Rattle.kiddwyr.proofs.take_frames.Met as take-frames-thm
-use Rattle.kiddwyr.proofs.boundaries_with_given as boundaries-with-given
-use Rattle.kiddwyr.proofs.boundaries_with_given.Symbol as boundaries-with-given-def
-use Rattle.kiddwyr.proofs.boundaries_with_given.Symbol.{name as #boundaries-with-given}
-use Rattle.kiddwyr.proofs.boundaries_with_given.Met as boundaries-with-given-thm
+use Rattle.within.proofs.boundaries_with_given as boundaries-with-given
+use Rattle.within.proofs.boundaries_with_given.Symbol as boundaries-with-given-def
+use Rattle.within.proofs.boundaries_with_given.Symbol.{name as #boundaries-with-given}
+use Rattle.within.proofs.boundaries_with_given.Met as boundaries-with-given-thm
 use Rattle.kiddwyr.proofs.kiddwyr_boundaries_with.Key.{name as #self}
 use Rattle.kiddwyr.proofs.kiddwyr_boundaries_with as f
 use Rattle.kiddwyr.proofs.kiddwyr_boundaries_with.Statement as stated
@@ -163,4 +163,4 @@ kiddwyr-boundaries-with-spec 𝓤 H 𝓜 𝓖 𝓡 =
     (walk-meets 𝓤 H A f.ended stayed W (goes 𝓤 H A W (𝓜 .mem) (𝓡 .run)) (f.clauses 𝓤 H A (𝓜 .mem) (𝓡 .run)) (WpFn 𝓤 H (𝓣 .C) (𝓣 .Λ) code.function) (WpFn-mono 𝓤 H (W .laws) 𝓣 code.function)
     (walks 𝓤 H A W (𝓜 .mem) (𝓡 .run) 𝓣
     (cited 𝓤 H (Met W take-frames.ended (take-frames.clauses 𝓤 H A (𝓜 .mem) (𝓡 .run))) 𝓜 𝓡 code.env #take-frames take-frames-def.routine code.calls-kiddwyr·take-frames (take-frames-thm.met 𝓤 H 𝓜 𝓖 𝓡))
-    (cited 𝓤 H (Met W boundaries-with-given.ended (boundaries-with-given.clauses 𝓤 H A (𝓜 .mem) (𝓡 .run))) 𝓜 𝓡 code.env #boundaries-with-given boundaries-with-given-def.routine code.calls-kiddwyr·boundaries-with-given (boundaries-with-given-thm.met 𝓤 H 𝓜 𝓖 𝓡))))
+    (cited 𝓤 H (Met W boundaries-with-given.ended (boundaries-with-given.clauses 𝓤 H A (𝓜 .mem) (𝓡 .run))) 𝓜 𝓡 code.env #boundaries-with-given boundaries-with-given-def.routine code.calls-within·boundaries-with-given (boundaries-with-given-thm.met 𝓤 H 𝓜 𝓖 𝓡))))

@@ -53,10 +53,10 @@ use Rattle.region.proofs.Settings as Se
 use Rattle.region.proofs.Settings.Laws as Se′
 use Rattle.chain.proofs.Marks as An
 use Rattle.chain.proofs.Marks.Laws as An′
-use Rattle.kiddwyr.proofs.chain_within as chain-within
-use Rattle.kiddwyr.proofs.chain_within.Symbol as chain-within-def
-use Rattle.kiddwyr.proofs.chain_within.Symbol.{name as #chain-within}
-use Rattle.kiddwyr.proofs.chain_within.Met as chain-within-thm
+use Rattle.within.proofs.chain_within as chain-within
+use Rattle.within.proofs.chain_within.Symbol as chain-within-def
+use Rattle.within.proofs.chain_within.Symbol.{name as #chain-within}
+use Rattle.within.proofs.chain_within.Met as chain-within-thm
 use Rattle.kiddwyr.proofs.fill_nuclei as fill-nuclei
 use Rattle.kiddwyr.proofs.fill_nuclei.Symbol as fill-nuclei-def
 use Rattle.kiddwyr.proofs.fill_nuclei.Symbol.{name as #fill-nuclei}
@@ -240,5 +240,5 @@ kiddwyr-chain-spec 𝓤 H 𝓜 𝓖 𝓡 =
     entered 𝓤 H (tripleOf 𝓤 H A f.signature (f.spec 𝓤 H A (𝓜 .mem) (𝓡 .run))) (tables 𝓤 H 𝓜 𝓡 code.env .C) (tables 𝓤 H 𝓜 𝓡 code.env .Λ) #self code.function (code.unfolded 𝓤 H 𝓜 𝓡)
     (walk-meets 𝓤 H A f.ended stayed W (goes 𝓤 H A W (𝓜 .mem) (𝓡 .run)) (f.clauses 𝓤 H A (𝓜 .mem) (𝓡 .run)) (WpFn 𝓤 H (𝓣 .C) (𝓣 .Λ) code.function) (WpFn-mono 𝓤 H (W .laws) 𝓣 code.function)
     (walks 𝓤 H A W (𝓜 .mem) (𝓡 .run) 𝓣
-    (cited 𝓤 H (Met W chain-within.ended (chain-within.clauses 𝓤 H A (𝓜 .mem) (𝓡 .run))) 𝓜 𝓡 code.env #chain-within chain-within-def.routine code.calls-kiddwyr·chain-within (chain-within-thm.met 𝓤 H 𝓜 𝓖 𝓡))
+    (cited 𝓤 H (Met W chain-within.ended (chain-within.clauses 𝓤 H A (𝓜 .mem) (𝓡 .run))) 𝓜 𝓡 code.env #chain-within chain-within-def.routine code.calls-within·chain-within (chain-within-thm.met 𝓤 H 𝓜 𝓖 𝓡))
     (cited 𝓤 H (Met W fill-nuclei.ended (fill-nuclei.clauses 𝓤 H A (𝓜 .mem) (𝓡 .run))) 𝓜 𝓡 code.env #fill-nuclei fill-nuclei-def.routine code.calls-kiddwyr·fill-nuclei (fill-nuclei-thm.met 𝓤 H 𝓜 𝓖 𝓡))))

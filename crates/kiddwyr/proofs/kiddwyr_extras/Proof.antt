@@ -54,10 +54,10 @@ use Rattle.kiddwyr.proofs.take_frames as take-frames
 use Rattle.kiddwyr.proofs.take_frames.Symbol as take-frames-def
 use Rattle.kiddwyr.proofs.take_frames.Symbol.{name as #take-frames}
 use Rattle.kiddwyr.proofs.take_frames.Met as take-frames-thm
-use Rattle.kiddwyr.proofs.extras_within as extras-within
-use Rattle.kiddwyr.proofs.extras_within.Symbol as extras-within-def
-use Rattle.kiddwyr.proofs.extras_within.Symbol.{name as #extras-within}
-use Rattle.kiddwyr.proofs.extras_within.Met as extras-within-thm
+use Rattle.within.proofs.extras_within as extras-within
+use Rattle.within.proofs.extras_within.Symbol as extras-within-def
+use Rattle.within.proofs.extras_within.Symbol.{name as #extras-within}
+use Rattle.within.proofs.extras_within.Met as extras-within-thm
 use Rattle.kiddwyr.proofs.fill_nuclei as fill-nuclei
 use Rattle.kiddwyr.proofs.fill_nuclei.Symbol as fill-nuclei-def
 use Rattle.kiddwyr.proofs.fill_nuclei.Symbol.{name as #fill-nuclei}
@@ -214,5 +214,5 @@ kiddwyr-extras-spec 𝓤 H 𝓜 𝓖 𝓡 =
     (walk-meets 𝓤 H A f.ended stayed W (goes 𝓤 H A W (𝓜 .mem) (𝓡 .run)) (f.clauses 𝓤 H A (𝓜 .mem) (𝓡 .run)) (WpFn 𝓤 H (𝓣 .C) (𝓣 .Λ) code.function) (WpFn-mono 𝓤 H (W .laws) 𝓣 code.function)
     (walks 𝓤 H A W (𝓜 .mem) (𝓡 .run) 𝓣
     (cited 𝓤 H (Met W take-frames.ended (take-frames.clauses 𝓤 H A (𝓜 .mem) (𝓡 .run))) 𝓜 𝓡 code.env #take-frames take-frames-def.routine code.calls-kiddwyr·take-frames (take-frames-thm.met 𝓤 H 𝓜 𝓖 𝓡))
-    (cited 𝓤 H (Met W extras-within.ended (extras-within.clauses 𝓤 H A (𝓜 .mem) (𝓡 .run))) 𝓜 𝓡 code.env #extras-within extras-within-def.routine code.calls-kiddwyr·extras-within (extras-within-thm.met 𝓤 H 𝓜 𝓖 𝓡))
+    (cited 𝓤 H (Met W extras-within.ended (extras-within.clauses 𝓤 H A (𝓜 .mem) (𝓡 .run))) 𝓜 𝓡 code.env #extras-within extras-within-def.routine code.calls-within·extras-within (extras-within-thm.met 𝓤 H 𝓜 𝓖 𝓡))
     (cited 𝓤 H (Met W fill-nuclei.ended (fill-nuclei.clauses 𝓤 H A (𝓜 .mem) (𝓡 .run))) 𝓜 𝓡 code.env #fill-nuclei fill-nuclei-def.routine code.calls-kiddwyr·fill-nuclei (fill-nuclei-thm.met 𝓤 H 𝓜 𝓖 𝓡))))

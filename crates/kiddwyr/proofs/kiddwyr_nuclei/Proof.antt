@@ -43,17 +43,16 @@ use Rattle.kiddwyr.specs.declared.Nucleus.{Nucleus}
 use Rattle.kiddwyr.proofs.Nucleus as T
 use Rattle.kiddwyr.proofs.Steps.{plusZero, zero-fits, array-made, copies, array-lends, shares-out, array-back, gone1, big-lit}
 use Rattle.kiddwyr.proofs.Entries.{begins, calls-fn, last1, ends-fn, Met}
-use Rattle.kiddwyr.proofs.Rooms.{laid-listed}
-use Rattle.kiddwyr.proofs.Wrapped.{scratch, laid-room}
+use Rattle.kiddwyr.proofs.Wrapped.{scratch, laid-room, laid-listed}
 use Rattle.region.specs.declared.Settings.{Settings}
 use Rattle.region.proofs.Settings as Se
 use Rattle.region.proofs.Settings.Laws as Se′
 use Rattle.entries.proofs.stages.Answer as An
 use Rattle.entries.proofs.stages.Answer.Laws as An′
-use Rattle.kiddwyr.proofs.nuclei_within as nuclei-within
-use Rattle.kiddwyr.proofs.nuclei_within.Symbol as nuclei-within-def
-use Rattle.kiddwyr.proofs.nuclei_within.Symbol.{name as #nuclei-within}
-use Rattle.kiddwyr.proofs.nuclei_within.Met as nuclei-within-thm
+use Rattle.within.proofs.nuclei_within as nuclei-within
+use Rattle.within.proofs.nuclei_within.Symbol as nuclei-within-def
+use Rattle.within.proofs.nuclei_within.Symbol.{name as #nuclei-within}
+use Rattle.within.proofs.nuclei_within.Met as nuclei-within-thm
 use Rattle.kiddwyr.proofs.fill_nuclei as fill-nuclei
 use Rattle.kiddwyr.proofs.fill_nuclei.Symbol as fill-nuclei-def
 use Rattle.kiddwyr.proofs.fill_nuclei.Symbol.{name as #fill-nuclei}
@@ -174,5 +173,5 @@ kiddwyr-nuclei-spec 𝓤 H 𝓜 𝓖 𝓡 =
     entered 𝓤 H (tripleOf 𝓤 H A f.signature (f.spec 𝓤 H A (𝓜 .mem) (𝓡 .run))) (tables 𝓤 H 𝓜 𝓡 code.env .C) (tables 𝓤 H 𝓜 𝓡 code.env .Λ) #self code.function (code.unfolded 𝓤 H 𝓜 𝓡)
     (walk-meets 𝓤 H A f.ended stayed W (goes 𝓤 H A W (𝓜 .mem) (𝓡 .run)) (f.clauses 𝓤 H A (𝓜 .mem) (𝓡 .run)) (WpFn 𝓤 H (𝓣 .C) (𝓣 .Λ) code.function) (WpFn-mono 𝓤 H (W .laws) 𝓣 code.function)
     (walks 𝓤 H A W (𝓜 .mem) (𝓡 .run) 𝓣
-    (cited 𝓤 H (Met W nuclei-within.ended (nuclei-within.clauses 𝓤 H A (𝓜 .mem) (𝓡 .run))) 𝓜 𝓡 code.env #nuclei-within nuclei-within-def.routine code.calls-kiddwyr·nuclei-within (nuclei-within-thm.met 𝓤 H 𝓜 𝓖 𝓡))
+    (cited 𝓤 H (Met W nuclei-within.ended (nuclei-within.clauses 𝓤 H A (𝓜 .mem) (𝓡 .run))) 𝓜 𝓡 code.env #nuclei-within nuclei-within-def.routine code.calls-within·nuclei-within (nuclei-within-thm.met 𝓤 H 𝓜 𝓖 𝓡))
     (cited 𝓤 H (Met W fill-nuclei.ended (fill-nuclei.clauses 𝓤 H A (𝓜 .mem) (𝓡 .run))) 𝓜 𝓡 code.env #fill-nuclei fill-nuclei-def.routine code.calls-kiddwyr·fill-nuclei (fill-nuclei-thm.met 𝓤 H 𝓜 𝓖 𝓡))))

@@ -53,10 +53,10 @@ use Rattle.kiddwyr.proofs.Steps.{copies, gone1, Turn, counts-up}
 use Rattle.kiddwyr.proofs.Entries.{begins, calls-fn, ends-fn, Met}
 use Rattle.kiddwyr.proofs.Filling.{blank, framesTo, no-frames-over, one-frame-over, long-frames-over}
 use Rattle.kiddwyr.proofs.Given.{taken-listed}
-use Rattle.kiddwyr.proofs.smaller as smaller
-use Rattle.kiddwyr.proofs.smaller.Symbol as smaller-def
-use Rattle.kiddwyr.proofs.smaller.Symbol.{name as #smaller}
-use Rattle.kiddwyr.proofs.smaller.Met as smaller-thm
+use Rattle.lists.proofs.sizes.smaller as smaller
+use Rattle.lists.proofs.sizes.smaller.Symbol as smaller-def
+use Rattle.lists.proofs.sizes.smaller.Symbol.{name as #smaller}
+use Rattle.lists.proofs.sizes.smaller.Met as smaller-thm
 use Rattle.kiddwyr.proofs.take_frames.Key.{name as #self}
 use Rattle.kiddwyr.proofs.take_frames as f
 use Rattle.kiddwyr.proofs.take_frames.Statement as stated
@@ -245,4 +245,4 @@ take-frames-spec 𝓤 H 𝓜 𝓖 𝓡 =
     entered 𝓤 H (tripleOf 𝓤 H A f.signature (f.spec 𝓤 H A (𝓜 .mem) (𝓡 .run))) (tables 𝓤 H 𝓜 𝓡 code.env .C) (tables 𝓤 H 𝓜 𝓡 code.env .Λ) #self code.function (code.unfolded 𝓤 H 𝓜 𝓡)
     (walk-meets 𝓤 H A f.ended stayed W (goes 𝓤 H A W (𝓜 .mem) (𝓡 .run)) (f.clauses 𝓤 H A (𝓜 .mem) (𝓡 .run)) (WpFn 𝓤 H (𝓣 .C) (𝓣 .Λ) code.function) (WpFn-mono 𝓤 H (W .laws) 𝓣 code.function)
     (walks 𝓤 H A W (𝓜 .mem) (𝓡 .run) 𝓣
-    (cited 𝓤 H (Met W smaller.ended (smaller.clauses 𝓤 H A (𝓜 .mem) (𝓡 .run))) 𝓜 𝓡 code.env #smaller smaller-def.routine code.calls-kiddwyr·smaller (smaller-thm.met 𝓤 H 𝓜 𝓖 𝓡))))
+    (cited 𝓤 H (Met W smaller.ended (smaller.clauses 𝓤 H A (𝓜 .mem) (𝓡 .run))) 𝓜 𝓡 code.env #smaller smaller-def.routine code.calls-lists·sizes·smaller (smaller-thm.met 𝓤 H 𝓜 𝓖 𝓡))))

@@ -1,10 +1,10 @@
 -- A list of records and the plain lists of at most 2,048 entries that stand for it: they are refused alike, and what is written to the plain ones fits the
 -- records. Assumes nothing.
-use Prim.Native.Nat.{ℕ, suc, _≤_, min}
+use Prim.Native.Nat.{ℕ, _≤_, min}
 use native.Mathlib.Omega.{arith}
-use mathlib.Core.Path.{_≡_, refl, sym, ap, ap₂, _∙_, subst}
+use mathlib.Core.Path.{_≡_, refl, ap, subst}
 use mathlib.Core.Bool.{Bool, true, false}
-use mathlib.Core.List.{List, [], _∷_, _++_, append-assoc}
+use mathlib.Core.List.{List, [], _++_, append-assoc}
 use borrow.Author.Tests.{leb-true, leb-false}
 use lib.Dec.{leb}
 use lib.ListN.{length, take, drop, length-append, length-take}
@@ -13,8 +13,7 @@ use lib.Seq.{take-append-seam}
 use Rattle.lists.specs.Results.{overlay, Listed, Front}
 use Rattle.lists.proofs.Tests.{and-cases}
 use Rattle.lists.proofs.Fill.{listed-fits}
-use Rattle.nuclei.specs.Nuclei as found
-use Rattle.nuclei.specs.Nuclei.{framesOf, strengthsOf}
+use Rattle.nuclei.specs.Nuclei.{Nucleus, framesOf, strengthsOf}
 use Rattle.region.specs.declared.Settings.{Settings}
 use Rattle.extra.specs.Extra.{extrasOf, edgesOf}
 use Rattle.admit.specs.Values.{allOf}
@@ -23,9 +22,7 @@ use Rattle.admit.specs.Refusals.{tested, refusal, nucleiRefusal, extrasRefusal,
 use Rattle.admit.proofs.First.{after-first}
 use Rattle.entries.specs.Stages.{ifAdmitted, nucleiEntry, extrasEntry, edgesEntry}
 use Rattle.nuclei.specs.Nuclei.{nucleiOf}
-use Rattle.kiddwyr.specs.Records.{recordsOf, recordOf}
-use Rattle.kiddwyr.specs.Within.{Laid, paired}
-use Rattle.kiddwyr.specs.declared.Nucleus.{Nucleus}
+use Rattle.within.specs.Within.{Laid}
 
 -- ---- room
 -- the first k entries of a plain list
@@ -82,22 +79,6 @@ front-more {A} {res} {old} {new} {r} rest l =
       entries = rw (l .entries, l .count, append-assoc) (take-append-seam res (drop (length res) old ++ rest));
     }
 
-pub part-laid : {ns ms : List found.Nucleus} {k room r : ℕ} {f₀ f : List ℕ} {s₀ s : List Float} → ns ≡ ms → k ≤ room → length f ≤ k → (f₁ : List ℕ) (s₁ : List Float) → Listed (framesOf ns) f₀ f r → Listed (strengthsOf ns) s₀ s r → Laid ms (f ++ f₁) (s ++ s₁) room r
+pub part-laid : {ns ms : List Nucleus} {k room r : ℕ} {f₀ f : List ℕ} {s₀ s : List Float} → ns ≡ ms → k ≤ room → length f ≤ k → (f₁ : List ℕ) (s₁ : List Float) → Listed (framesOf ns) f₀ f r → Listed (strengthsOf ns) s₀ s r → Laid ms (f ++ f₁) (s ++ s₁) room r
 part-laid {ns} {ms} {k} {room} {r} {f₀} {f} {s₀} {s} e h l f₁ s₁ a b =
-    subst (λ (ns : List found.Nucleus). Laid ns (f ++ f₁) (s ++ s₁) room r) e (record { framed = front-more f₁ a; strong = front-more s₁ b; fits = omega (arith, listed-fits a) })
-
--- ---- the records
-long-frames : (ns : List found.Nucleus) → length (framesOf ns) ≡ length (recordsOf ns)
-long-frames [] = refl
-long-frames (n ∷ ns) = ap suc (long-frames ns)
-
-pair-up : (ns : List found.Nucleus) → paired (framesOf ns) (strengthsOf ns) ≡ recordsOf ns
-pair-up [] = refl
-pair-up (n ∷ ns) = ap (λ (t : List Nucleus). recordOf n ∷ t) (pair-up ns)
-
-pub laid-listed : {ns : List found.Nucleus} {f : List ℕ} {s : List Float} {room r : ℕ} {old new : List Nucleus} → Laid ns f s room r → new ≡ overlay (paired (take r f) (take r s)) old → Listed (recordsOf ns) old new r
-laid-listed {ns} {f} {s} {room} {r} {old} l e =
-    record {
-      count = sym (length-take r f ∙ omega (arith, l .framed .within)) ∙ ap length (l .framed .entries) ∙ long-frames ns;
-      entries = e ∙ ap (λ (t : List Nucleus). overlay t old) (ap₂ paired (l .framed .entries) (l .strong .entries) ∙ pair-up ns);
-    }
+    subst (λ (ns : List Nucleus). Laid ns (f ++ f₁) (s ++ s₁) room r) e (record { framed = front-more f₁ a; strong = front-more s₁ b; fits = omega (arith, listed-fits a) })

@@ -1,9 +1,9 @@
--- `kiddwyr::boundaries_given` meets its contract. Assumes nothing.
+-- `within::boundaries_given` meets its contract. Assumes nothing.
 use borrow.Author.Needs.{needs}
 use mathlib.Core.Path.{sym}
 use lib.Seq.{length-take-le}
-use Rattle.kiddwyr.proofs.boundaries_given.Statement.{statement}
-use Rattle.kiddwyr.proofs.boundaries_given.Tie as tie
+use Rattle.within.proofs.boundaries_given.Statement.{statement}
+use Rattle.within.proofs.boundaries_given.Tie as tie
 
 slice-aggregate-boundaries : tie.Need-slice-aggregate-boundaries
 slice-aggregate-boundaries c =

@@ -1,4 +1,4 @@
--- `kiddwyr::extras_within` meets its contract. Assumes nothing.
+-- `within::extras_within` meets its contract. Assumes nothing.
 use borrow.Author.Needs.{needs}
 use Prim.Native.Nat.{min}
 use native.Mathlib.Omega.{arith}
@@ -6,9 +6,9 @@ use mathlib.Core.Path.{_≡_, sym, _∙_}
 use lib.ListN.{length, take, drop}
 use lib.Seq.{length-take-le}
 use Rattle.lists.proofs.Fill.{relisted}
-use Rattle.kiddwyr.proofs.Rooms.{cut-long, extras-room, extras-room-found, edges-room-found, part-laid}
-use Rattle.kiddwyr.proofs.extras_within.Statement.{statement}
-use Rattle.kiddwyr.proofs.extras_within.Tie as tie
+use Rattle.within.proofs.Rooms.{cut-long, extras-room, extras-room-found, edges-room-found, part-laid}
+use Rattle.within.proofs.extras_within.Statement.{statement}
+use Rattle.within.proofs.extras_within.Tie as tie
 
 smaller-requires : tie.Need-smaller-requires
 smaller-requires c κs = search needs

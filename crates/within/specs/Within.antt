@@ -1,43 +1,27 @@
--- Scaffolding of the layer over records: plain lists of 2,048 entries stand for a list of records, and are refused as it would be. Definitions only.
+-- Scaffolding of the layer over records: plain lists of 2,048 entries that stand for a list of records, and are refused as it would be. Definitions only.
 use Prim.Native.Nat.{ℕ, _≤_}
 use mathlib.Core.Path.{_≡_}
-use mathlib.Core.List.{List, [], _∷_}
-use lib.ListN.{length, take}
+use mathlib.Core.List.{List}
+use lib.ListN.{length}
 use lib.Ieee.{Float}
 use Rattle.lists.specs.Results.{overlay, Listed, Front}
 use Rattle.region.specs.declared.Settings.{Settings}
-use Rattle.nuclei.specs.Nuclei as found
+use Rattle.nuclei.specs.Nuclei.{Nucleus, framesOf, strengthsOf}
 use Rattle.admit.specs.Refusals.{nucleiRefusal, extrasRefusal}
 use Rattle.entries.specs.Stages.{nucleiEntry, extrasEntry, edgesEntry}
 use Rattle.entries.specs.declared.stages.Answer.{Answer}
 use Rattle.entries.specs.declared.stages.Counted.{Counted}
 use Rattle.chain.specs.Chain.{Take, Lists, refusalFor, readingBy, answerBy}
 use Rattle.chain.specs.declared.Marks.{Marks}
-use Rattle.kiddwyr.specs.declared.Nucleus.{Nucleus}
-use Rattle.kiddwyr.specs.Records.{framesIn}
-
--- each frame with its strength, as far as both lists go
-abbrev pub paired : List ℕ → List Float → List Nucleus
-paired [] ss = []
-paired (f ∷ fs) [] = []
-paired (f ∷ fs) (s ∷ ss) = record { frame = f; strength = s } ∷ paired fs ss
-
--- `fill_nuclei`: the first count frames and strengths at the front of a list of records
-abbrev pub Filled : List ℕ → List Float → ℕ → List Nucleus → List Nucleus → Type 0
-Filled frames strengths count old new = new ≡ overlay (paired (take count frames) (take count strengths)) old
-
--- `take_frames`: as many frames as there is room for
-abbrev pub FramesTaken : List Nucleus → List ℕ → List ℕ → ℕ → Type 0
-FramesTaken nuclei old new r = Listed (take (length old) (framesIn nuclei)) old new r
 
 -- lists that stand for any list of records: no take has more nuclei
 abbrev pub Scratch : List ℕ → List Float → Type 0
 Scratch frames strengths = (length frames ≡ 2048) × (length strengths ≡ 2048)
 
 -- what two lists hold of nuclei at their front, as far as the count r, for a list of records with so much room
-pub record Laid (ns : List found.Nucleus) (frames : List ℕ) (strengths : List Float) (room r : ℕ) : Type 0 where
-  pub framed : Front (found.framesOf ns) frames r
-  pub strong : Front (found.strengthsOf ns) strengths r
+pub record Laid (ns : List Nucleus) (frames : List ℕ) (strengths : List Float) (room r : ℕ) : Type 0 where
+  pub framed : Front (framesOf ns) frames r
+  pub strong : Front (strengthsOf ns) strengths r
   pub fits : r ≤ room
 
 -- `nuclei_within`

@@ -1,12 +1,12 @@
--- `kiddwyr::nuclei_within` meets its contract. Assumes nothing.
+-- `within::nuclei_within` meets its contract. Assumes nothing.
 use borrow.Author.Needs.{needs}
-use Rattle.kiddwyr.proofs.nuclei_within.Statement.{statement}
-use Rattle.kiddwyr.proofs.nuclei_within.Tie as tie
+use Rattle.within.proofs.nuclei_within.Statement.{statement}
+use Rattle.within.proofs.nuclei_within.Tie as tie
 use native.Mathlib.Omega.{arith}
 use Prim.Native.Nat.{min}
 use mathlib.Core.Path.{_≡_, sym, _∙_}
 use lib.ListN.{length, take, drop}
-use Rattle.kiddwyr.proofs.Rooms.{cut-long, nuclei-room, nuclei-room-found, part-laid}
+use Rattle.within.proofs.Rooms.{cut-long, nuclei-room, nuclei-room-found, part-laid}
 
 smaller-requires : tie.Need-smaller-requires
 smaller-requires c κs = search needs

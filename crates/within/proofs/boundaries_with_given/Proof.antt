@@ -1,9 +1,9 @@
--- `kiddwyr::boundaries_with_given` meets its contract. Assumes nothing.
+-- `within::boundaries_with_given` meets its contract. Assumes nothing.
 use borrow.Author.Needs.{needs}
 use mathlib.Core.Path.{sym}
 use lib.Seq.{length-take-le}
-use Rattle.kiddwyr.proofs.boundaries_with_given.Statement.{statement}
-use Rattle.kiddwyr.proofs.boundaries_with_given.Tie as tie
+use Rattle.within.proofs.boundaries_with_given.Statement.{statement}
+use Rattle.within.proofs.boundaries_with_given.Tie as tie
 
 slice-aggregate-boundaries-with : tie.Need-slice-aggregate-boundaries-with
 slice-aggregate-boundaries-with c =

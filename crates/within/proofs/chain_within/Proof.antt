@@ -1,10 +1,10 @@
--- `kiddwyr::chain_within` meets its contract. Assumes nothing.
+-- `within::chain_within` meets its contract. Assumes nothing.
 use borrow.Author.Needs.{needs}
 use Rattle.chain.specs.Chain.{takeOf, listsOf}
-use Rattle.kiddwyr.proofs.Rooms.{cut-long}
-use Rattle.kiddwyr.proofs.Chained.{noted}
-use Rattle.kiddwyr.proofs.chain_within.Statement.{statement}
-use Rattle.kiddwyr.proofs.chain_within.Tie as tie
+use Rattle.within.proofs.Rooms.{cut-long}
+use Rattle.within.proofs.Chained.{noted}
+use Rattle.within.proofs.chain_within.Statement.{statement}
+use Rattle.within.proofs.chain_within.Tie as tie
 
 smaller-requires : tie.Need-smaller-requires
 smaller-requires c κs = search needs

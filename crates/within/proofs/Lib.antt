@@ -1,0 +1,2 @@
+pub mod Chained
+pub mod Rooms
