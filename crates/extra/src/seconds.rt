@@ -11,7 +11,7 @@ ghost use lib.Dec.{ltb, leb};
 ghost use lib.ListN.{length, getD};
 ghost use Rattle.lists.specs.Results.{Pushed};
 ghost use Rattle.lists.specs.Sorted.{StrictlyRises};
-ghost use Rattle.runs.specs.Runs.{spans, longRuns, Spaced};
+ghost use Rattle.runs.specs.Runs.{spanOf, spans, longRuns, Spaced};
 ghost use Rattle.extra.specs.Split.{splitOf};
 ghost use Rattle.extra.specs.Seconds.{heldBy, otherPart, afterCut, secondIn, there, frameOf, edgeOf, seconds, SecondsListed};
 ghost use Rattle.extra.specs.Passing.{Passed, Reached};
@@ -55,7 +55,7 @@ fn reaches(kept: &[u32], q: usize, b: u32) -> bool
 // What the run a..=b holds of the kept frames, of which the q-th is the first that does not lie before it.
 fn one_held(kept: &[u32], q: usize, a: u32, b: u32) -> Held
     requires { ⌜ (a ≤ b) × (b < 2048) × StrictlyRises 0 2048 (now kept) × Reached (now kept) a q ⌝ }
-    ensures { λ r. ⌜ r ≡ heldBy (now (kept .entry)) (record { first = a; last = b }) ⌝ }
+    ensures { λ r. ⌜ r ≡ heldBy (now (kept .entry)) (spanOf a b) ⌝ }
 {
     if reaches(kept, q, b) {
         if reaches(kept, q + 1, b) {
@@ -69,7 +69,7 @@ fn one_held(kept: &[u32], q: usize, a: u32, b: u32) -> Held
 // The middle of the part of the run a..=b, split before frame k, that is without the nucleus.
 fn other_part(a: usize, b: usize, nucleus: usize, k: usize) -> usize
     requires { ⌜ (a < k) × (k ≤ b) × (b < 2048) ⌝ }
-    ensures { λ r. ⌜ (r ≡ otherPart (record { first = a; last = b }) nucleus k) × (r ≤ b) ⌝ }
+    ensures { λ r. ⌜ (r ≡ otherPart (spanOf a b) nucleus k) × (r ≤ b) ⌝ }
 {
     if nucleus < k {
         (k + b) / 2
@@ -81,8 +81,7 @@ fn other_part(a: usize, b: usize, nucleus: usize, k: usize) -> usize
 // The second syllable of the run a..=b, which holds a nucleus.
 fn second_beside(son: &[f32], a: usize, b: usize, nucleus: usize) -> Second
     requires { ⌜ (a ≤ b) × (b < length (now son)) × (length (now son) ≤ 2048) ⌝ }
-    ensures { λ r. ⌜ r ≡ afterCut (record { first = a; last = b }) nucleus
-        (splitOf (now (son .entry)) (record { first = a; last = b }) nucleus) ⌝ }
+    ensures { λ r. ⌜ r ≡ afterCut (spanOf a b) nucleus (splitOf (now (son .entry)) (spanOf a b) nucleus) ⌝ }
 {
     let Cut::Before(k) = split(son, a, b, nucleus) else {
         return Second::Nothing;
@@ -96,7 +95,7 @@ fn second_beside(son: &[f32], a: usize, b: usize, nucleus: usize) -> Second
 fn second_in(son: &[f32], kept: &[u32], q: usize, a: u32, b: u32) -> Second
     requires { ⌜ (a ≤ b) × (b < length (now son)) × (length (now son) ≤ 2048) × StrictlyRises 0 2048 (now kept)
         × Reached (now kept) a q ⌝ }
-    ensures { λ r. ⌜ r ≡ secondIn (now (son .entry)) (now (kept .entry)) (record { first = a; last = b }) ⌝ }
+    ensures { λ r. ⌜ r ≡ secondIn (now (son .entry)) (now (kept .entry)) (spanOf a b) ⌝ }
 {
     let Held::One(f) = one_held(kept, q, a, b) else {
         return Second::Nothing;

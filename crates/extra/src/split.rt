@@ -8,6 +8,7 @@ ghost use Prim.Native.Nat.{_+_, _≤_, _<_};
 ghost use lib.Dec.{leb};
 ghost use lib.ListN.{length};
 ghost use lib.Ieee.{le};
+ghost use Rattle.runs.specs.Runs.{spanOf};
 ghost use Rattle.extra.specs.Split.{fifth, change, absDiff, splitOf};
 
 // The sonority changes by this much or more across a split.
@@ -55,7 +56,7 @@ fn is_better(most: f32, change: f32, nucleus: usize, k: usize) -> bool
 // a tie. A run of fewer than 12 frames does not.
 pub fn split(son: &[f32], a: usize, b: usize, nucleus: usize) -> Cut
     requires { ⌜ (a ≤ b) × (b < length (now son)) × (length (now son) ≤ 2048) ⌝ }
-    ensures { λ r. ⌜ r ≡ splitOf (now (son .entry)) (record { first = a; last = b }) nucleus ⌝ }
+    ensures { λ r. ⌜ r ≡ splitOf (now (son .entry)) (spanOf a b) nucleus ⌝ }
 {
     let mut best = Cut::Uncut;
     let mut most = SPLIT_CHANGE;

@@ -15,7 +15,7 @@ ghost use mathlib.Core.List.{_++_};
 ghost use Prim.Native.Nat.{_+_, _≤_, _<_};
 ghost use lib.ListN.{length, take};
 ghost use Rattle.lists.specs.Results.{Listed, Pushed};
-ghost use Rattle.runs.specs.Runs.{spans, SpansLent};
+ghost use Rattle.runs.specs.Runs.{spanOf, spans, SpansLent};
 ghost use Rattle.runs.specs.Near.{found, numberOf};
 ghost use Rattle.nuclei.specs.Tops.{runsHeld, unheldFrom, topOf, onFlank, standsAlone, hasTop, topsOf};
 
@@ -83,9 +83,9 @@ fn push_top(
     n: usize,
 ) -> usize
     requires { ⌜ (length (now s) ≤ 2048) × (b .end ≤ length (now s))
-        × (hasTop (now s) b dip (record { first = first; last = last }) ≡ true → n < length (now out)) ⌝ }
-    ensures { λ r. ⌜ Pushed (hasTop (now (s .entry)) b dip (record { first = first; last = last }))
-        (topOf (now (s .entry)) b (record { first = first; last = last })) n (now (out .entry)) (now (out .exit)) r ⌝ }
+        × (hasTop (now s) b dip (spanOf first last) ≡ true → n < length (now out)) ⌝ }
+    ensures { λ r. ⌜ Pushed (hasTop (now (s .entry)) b dip (spanOf first last))
+        (topOf (now (s .entry)) b (spanOf first last)) n (now (out .entry)) (now (out .exit)) r ⌝ }
 {
     let lo = larger(first as usize, b.start);
     let hi = smaller(last as usize + 1, b.end);

@@ -18,8 +18,7 @@ use Rattle.chain.specs.Chain.{Take, Lists, Left, pitchesOf, readingIn, readingO
 use Rattle.chain.specs.Chain.{refusalOf}
 use Rattle.take.specs.File.{frameCount, fileRefusal, records, trackAt, takeIn, readTake}
 use Rattle.take.specs.File.{FileTake}
-use Rattle.take.specs.Listing.{listing, refusedListing, largestListing}
-use Rattle.take.specs.Listing.{Marks as Told}
+use Rattle.take.specs.Listing.{toldOf, listing, refusedListing, largestListing, Marks as Told}
 use Rattle.take.proofs.Sizes.{listing-fits}
 use Rattle.report.specs.Shown.{told, refusalIn, textBy, textOf, unsampled, printed, shown, Fitting}
 
@@ -91,19 +90,8 @@ module _ (given : List Float) (o : Left) where
   -- what it is made of, by counts
   abbrev pub front : ℕ → ℕ → ℕ → ℕ → Told
   front a b c d =
-      record {
-        given = given;
-        left = o .pitch;
-        found = o .answer .found;
-        start = o .answer .start;
-        end = o .answer .end;
-        frames = take a (o .lists .frames);
-        strengths = take a (o .lists .strengths);
-        extraFrames = take b (o .lists .xframes);
-        extraStrengths = take b (o .lists .xstrengths);
-        edges = take c (o .lists .edges);
-        boundaries = take d (o .lists .bounds);
-      }
+      let l = o .lists in
+      toldOf given (o .pitch) (o .answer .found) (o .answer .start) (o .answer .end) (take a (l .frames)) (take a (l .strengths)) (take b (l .xframes)) (take b (l .xstrengths)) (take c (l .edges)) (take d (l .bounds))
 
   pub refused-shown : (o .answer .refusal ≡ 0 → ⊥) → refusedListing (o .answer .refusal) ≡ shown given o
   unfolding shown

@@ -10,25 +10,14 @@ use Rattle.nuclei.specs.Nuclei.{framesOf, strengthsOf}
 use Rattle.chain.specs.Chain.{Take, Reading, Lists, Left, takeOf, readingOf, answered, refusalFor}
 use Rattle.take.specs.File.{FileTake, FileReading, readTake}
 use Rattle.take.specs.File.FileReading.{refused, taken}
-use Rattle.take.specs.Listing.{listing, refusedListing, Marks as Told}
+use Rattle.take.specs.Listing.{toldOf, listing, refusedListing, Marks as Told}
 
 -- ---- a take
 -- what its listing tells: the pitches as given beside those of its reading, and the reading's marks
 abbrev pub told : List Float → Reading → Told
 told given m =
-    record {
-      given = given;
-      left = m .pitch;
-      found = answered m .found;
-      start = answered m .start;
-      end = answered m .end;
-      frames = framesOf (m .nuclei);
-      strengths = strengthsOf (m .nuclei);
-      extraFrames = framesOf (m .extras);
-      extraStrengths = strengthsOf (m .extras);
-      edges = m .edges;
-      boundaries = m .boundaries;
-    }
+    let a = answered m in
+    toldOf given (m .pitch) (a .found) (a .start) (a .end) (framesOf (m .nuclei)) (strengthsOf (m .nuclei)) (framesOf (m .extras)) (strengthsOf (m .extras)) (m .edges) (m .boundaries)
 
 -- the chain's refusal number where each list has the entries that it needs
 abbrev pub refusalIn : Take → ℕ
@@ -61,22 +50,13 @@ printed file = answerTo (readTake file)
 -- the text of what it answers and leaves: the entries that it answers for, and nothing past them
 unfoldable pub shown : List Float → Left → List ℕ
 shown given o =
-    cond (eqb (o .answer .refusal) 0)
+    let a = o .answer in
+    let l = o .lists in
+    cond (eqb (a .refusal) 0)
     (listing
-    (record {
-      given = given;
-      left = o .pitch;
-      found = o .answer .found;
-      start = o .answer .start;
-      end = o .answer .end;
-      frames = take (o .answer .nuclei) (o .lists .frames);
-      strengths = take (o .answer .nuclei) (o .lists .strengths);
-      extraFrames = take (o .answer .extras) (o .lists .xframes);
-      extraStrengths = take (o .answer .extras) (o .lists .xstrengths);
-      edges = take (o .answer .edges) (o .lists .edges);
-      boundaries = take (o .answer .boundaries) (o .lists .bounds);
-    }))
-    (refusedListing (o .answer .refusal))
+    (toldOf given (o .pitch) (a .found) (a .start) (a .end) (take (a .nuclei) (l .frames)) (take (a .nuclei) (l .strengths))
+    (take (a .extras) (l .xframes)) (take (a .extras) (l .xstrengths)) (take (a .edges) (l .edges)) (take (a .boundaries) (l .bounds))))
+    (refusedListing (a .refusal))
 
 -- lists of at most the entries that n frames need
 pub record Fitting (n : ℕ) (l : Lists) : Type 0 where

@@ -45,9 +45,12 @@ pub record Span : Type 0 where
   pub first : ℕ
   pub last : ℕ
 
+abbrev pub spanOf : ℕ → ℕ → Span
+spanOf first last = record { first = first; last = last }
+
 -- a voiced run by its two ends
 abbrev pub span : Run → Span
-span r = record { first = r .first; last = r .last }
+span r = spanOf (r .first) (r .last)
 
 -- the long runs, in order
 unfoldable pub longRuns : List Float → List Span

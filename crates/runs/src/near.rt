@@ -2,7 +2,7 @@
 use lists::sizes::smaller;
 ghost use mathlib.Core.Path.{_≡_};
 ghost use Prim.Native.Nat.{_+_, _-_, min};
-ghost use Rattle.runs.specs.Runs.{spans, SpansLent};
+ghost use Rattle.runs.specs.Runs.{spanOf, spans, SpansLent};
 ghost use Rattle.runs.specs.Near.{distance, runOf, separate};
 
 // Frames at most this far apart are near: a frame this far outside a run belongs to it.
@@ -37,7 +37,7 @@ pub fn near_end(at: u32, n: usize) -> usize
 
 // How far frame at lies outside the run first..=last; 0 inside it.
 fn distance_to(first: u32, last: u32, at: u32) -> u32
-    ensures { λ r. ⌜ r ≡ distance (record { first = first; last = last }) at ⌝ }
+    ensures { λ r. ⌜ r ≡ distance (spanOf first last) at ⌝ }
 {
     let left = excess(first, at);
     let right = excess(at, last);

@@ -22,6 +22,9 @@ pub record Marks : Type 0 where
   pub edges : List ℕ
   pub boundaries : List ℕ
 
+abbrev pub toldOf : List Float → List Float → Bool → ℕ → ℕ → List ℕ → List Float → List ℕ → List Float → List ℕ → List ℕ → Marks
+toldOf given left found start end frames strengths xframes xstrengths edges bounds = record { given = given; left = left; found = found; start = start; end = end; frames = frames; strengths = strengths; extraFrames = xframes; extraStrengths = xstrengths; edges = edges; boundaries = bounds }
+
 -- the words, in ASCII
 abbrev pub pitchWord : List ℕ
 pitchWord = 112 ∷ 105 ∷ 116 ∷ 99 ∷ 104 ∷ []

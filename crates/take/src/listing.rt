@@ -11,7 +11,7 @@ ghost use Prim.Native.Nat.{_+_, _≤_};
 ghost use lib.ListN.{length};
 ghost use Rattle.lists.specs.Results.{Listed};
 ghost use Rattle.take.specs.Text.{Put};
-ghost use Rattle.take.specs.Listing.{repitched, pitchWord, frameLine, markLine, frameLines, markLines, pitchLines, regionLine, listing, refusedListing};
+ghost use Rattle.take.specs.Listing.{toldOf, repitched, pitchWord, frameLine, markLine, frameLines, markLines, pitchLines, regionLine, listing, refusedListing};
 
 // A word and a number.
 fn frame_line(word: &[u8], frame: u32, out: &mut [u8], at: usize) -> usize
@@ -129,33 +129,11 @@ pub fn listing(
 ) -> usize
     requires { ⌜ (length (now given) ≡ length (now left)) × (length (now left) ≤ 2048)
         × (length (now frames) ≡ length (now strengths)) × (length (now xframes) ≡ length (now xstrengths)) ⌝ }
-    requires { ⌜ length (listing (record {
-      given = now given;
-      left = now left;
-      found = found;
-      start = start;
-      end = end;
-      frames = now frames;
-      strengths = now strengths;
-      extraFrames = now xframes;
-      extraStrengths = now xstrengths;
-      edges = now edges;
-      boundaries = now bounds;
-    })) ≤ length (now out) ⌝ }
+    requires { ⌜ length (listing (toldOf (now given) (now left) found start end (now frames) (now strengths) (now xframes)
+        (now xstrengths) (now edges) (now bounds))) ≤ length (now out) ⌝ }
     ensures { λ r. ⌜ Listed (listing
-        (record {
-          given = now (given .entry);
-          left = now (left .entry);
-          found = found;
-          start = start;
-          end = end;
-          frames = now (frames .entry);
-          strengths = now (strengths .entry);
-          extraFrames = now (xframes .entry);
-          extraStrengths = now (xstrengths .entry);
-          edges = now (edges .entry);
-          boundaries = now (bounds .entry);
-        }))
+        (toldOf (now (given .entry)) (now (left .entry)) found start end (now (frames .entry)) (now (strengths .entry))
+        (now (xframes .entry)) (now (xstrengths .entry)) (now (edges .entry)) (now (bounds .entry))))
         (now (out .entry)) (now (out .exit)) r ⌝ }
 {
     let a = pitch_lines(given, left, out, 0);

@@ -1,44 +1,23 @@
 -- `take::listing::listing` meets its contract: one part after another, each in the room that is left. Assumes nothing.
-use Prim.Native.Nat.{ℕ}
-use mathlib.Core.Bool.{Bool}
-use mathlib.Core.List.{List}
-use lib.Ieee.{Float}
 use borrow.Author.Needs.{needs}
-use Rattle.take.specs.Listing.{Marks, frameLines, markLines, pitchLines, regionLine, listing, nucleusWord, extraWord, edgeWord, boundaryWord}
+use Rattle.take.specs.Listing.{toldOf, frameLines, markLines, pitchLines, regionLine, listing, nucleusWord, extraWord, edgeWord, boundaryWord}
 use Rattle.take.proofs.Puts.{put-then, put-listed, room-first, room-next}
 use Rattle.take.proofs.Lines.{fromEdges, fromExtras, fromNuclei, fromRegion, listing-room}
 use Rattle.take.proofs.listing.listing.Statement.{statement}
 use Rattle.take.proofs.listing.listing.Tie as tie
 
--- what a call is given
-abbrev told : List Float → List Float → Bool → ℕ → ℕ → List ℕ → List Float → List ℕ → List Float → List ℕ → List ℕ → Marks
-told given left found start end frames strengths xframes xstrengths edges bounds =
-    record {
-      given = given;
-      left = left;
-      found = found;
-      start = start;
-      end = end;
-      frames = frames;
-      strengths = strengths;
-      extraFrames = xframes;
-      extraStrengths = xstrengths;
-      edges = edges;
-      boundaries = bounds;
-    }
-
 pitch-lines-requires : tie.Need-pitch-lines-requires
 pitch-lines-requires c κs =
     let start = c .before .before .before .before .before .before .before .before .before .before in
     let a = start .args in
-    let m = told (a .given .now) (a .left .now) (a .found) (a .start) (a .end) (a .frames .now) (a .strengths .now) (a .xframes .now) (a .xstrengths .now) (a .edges .now) (a .bounds .now) in
+    let m = toldOf (a .given .now) (a .left .now) (a .found) (a .start) (a .end) (a .frames .now) (a .strengths .now) (a .xframes .now) (a .xstrengths .now) (a .edges .now) (a .bounds .now) in
     ((start .pre .0 .0, start .pre .0 .1), room-first (pitchLines (m .given) (m .left)) (fromRegion m) _ _ (listing-room m _ (start .pre .1)))
 
 region-line-requires : tie.Need-region-line-requires
 region-line-requires c κs =
     let start = c .before .before .before .before .before .before .before .before .before .before .before .before .before .before in
     let a = start .args in
-    let m = told (a .given .now) (a .left .now) (a .found) (a .start) (a .end) (a .frames .now) (a .strengths .now) (a .xframes .now) (a .xstrengths .now) (a .edges .now) (a .bounds .now) in
+    let m = toldOf (a .given .now) (a .left .now) (a .found) (a .start) (a .end) (a .frames .now) (a .strengths .now) (a .xframes .now) (a .xstrengths .now) (a .edges .now) (a .bounds .now) in
     room-first (regionLine (m .found) (m .start) (m .end)) (fromNuclei m) _ _ (room-next (fromRegion m) (c .before .before .before .pitch-lines .ensures) (listing-room m _ (start .pre .1)))
 
 slice-aggregate-mark-lines : tie.Need-slice-aggregate-mark-lines
@@ -49,7 +28,7 @@ mark-lines-requires c κs =
     let at-pitch-lines = c .before .before .before .before .before .before .before .before in
     let start = at-pitch-lines .before .before .before .before .before .before .before .before .before .before .before in
     let a = start .args in
-    let m = told (a .given .now) (a .left .now) (a .found) (a .start) (a .end) (a .frames .now) (a .strengths .now) (a .xframes .now) (a .xstrengths .now) (a .edges .now) (a .bounds .now) in (
+    let m = toldOf (a .given .now) (a .left .now) (a .found) (a .start) (a .end) (a .frames .now) (a .strengths .now) (a .xframes .now) (a .xstrengths .now) (a .edges .now) (a .bounds .now) in (
       start .pre .0 .2,
       room-first (markLines nucleusWord (m .frames) (m .strengths)) (fromExtras m) _ _
           (room-next (fromNuclei m) (c .before .before .before .before .region-line .ensures)
@@ -64,7 +43,7 @@ mark-lines-requires-2 c κs =
     let at-region-line = c .before .before .before .before .before .before .before .before .before in
     let start = at-region-line .before .before .before .before .before .before .before .before .before .before .before .before .before .before .before in
     let a = start .args in
-    let m = told (a .given .now) (a .left .now) (a .found) (a .start) (a .end) (a .frames .now) (a .strengths .now) (a .xframes .now) (a .xstrengths .now) (a .edges .now) (a .bounds .now) in (
+    let m = toldOf (a .given .now) (a .left .now) (a .found) (a .start) (a .end) (a .frames .now) (a .strengths .now) (a .xframes .now) (a .xstrengths .now) (a .edges .now) (a .bounds .now) in (
       start .pre .0 .3,
       room-first (markLines extraWord (m .extraFrames) (m .extraStrengths)) (fromEdges m) _ _
           (room-next (fromExtras m) (c .before .before .before .before .mark-lines .ensures)
@@ -81,7 +60,7 @@ frame-lines-requires c κs =
     let at-pitch-lines = at-mark-lines .before .before .before .before .before .before .before .before .before in
     let start = at-pitch-lines .before .before .before .before .before .before .before .before .before .before .before in
     let a = start .args in
-    let m = told (a .given .now) (a .left .now) (a .found) (a .start) (a .end) (a .frames .now) (a .strengths .now) (a .xframes .now) (a .xstrengths .now) (a .edges .now) (a .bounds .now) in
+    let m = toldOf (a .given .now) (a .left .now) (a .found) (a .start) (a .end) (a .frames .now) (a .strengths .now) (a .xframes .now) (a .xstrengths .now) (a .edges .now) (a .bounds .now) in
     room-first (frameLines edgeWord (m .edges)) (frameLines boundaryWord (m .boundaries)) _ _
     (room-next (fromEdges m) (c .before .before .before .before .mark-lines2 .ensures)
     (room-next (fromExtras m) (at-mark-lines .mark-lines .ensures)
@@ -97,7 +76,7 @@ frame-lines-requires-2 c κs =
     let at-region-line = at-mark-lines2 .before .before .before .before .before .before .before .before .before .before in
     let start = at-region-line .before .before .before .before .before .before .before .before .before .before .before .before .before .before .before in
     let a = start .args in
-    let m = told (a .given .now) (a .left .now) (a .found) (a .start) (a .end) (a .frames .now) (a .strengths .now) (a .xframes .now) (a .xstrengths .now) (a .edges .now) (a .bounds .now) in
+    let m = toldOf (a .given .now) (a .left .now) (a .found) (a .start) (a .end) (a .frames .now) (a .strengths .now) (a .xframes .now) (a .xstrengths .now) (a .edges .now) (a .bounds .now) in
     room-next (frameLines boundaryWord (m .boundaries)) (c .before .before .before .before .frame-lines .ensures)
     (room-next (fromEdges m) (at-mark-lines2 .mark-lines2 .ensures)
     (room-next (fromExtras m) (at-mark-lines2 .before .before .before .before .before .mark-lines .ensures)
