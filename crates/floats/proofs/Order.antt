@@ -1,4 +1,4 @@
--- The total order: `before` is an order on the values of an `f32`, it goes by the numbers, -0.0 stands before +0.0 and a NaN last,
+-- The total order: `notAfter` is an order on the values of an `f32`, it goes by the numbers, -0.0 stands before +0.0 and a NaN last,
 -- and a value is told by its place. Assumes nothing.
 use mathlib.Core.Path.{_≡_, refl, sym, ap, _∙_}
 use mathlib.Core.Logic.{_⊎_, inl, inr}
@@ -10,6 +10,7 @@ use lib.Dec.{T, lit<, lit≤}
 use borrow.Author.Tests.{le-leb, lt-leb, leb-true, leb-false, ltb-true}
 use lib.IntN.{ℤ, pos}
 use lib.Ieee.{Float, nan, inf, fin, binary32, up, down, lt, fits, isNan, toBits, ofBits}
+use lib.Ieee.Scale.{finite}
 use lib.Ieee.Bits.{ofBits-toBits, toBits-ofBits, toBits-lt}
 use Rattle.floats.specs.Total.{placed, totalKey, unplaced, valueOf, notAfter}
 use Rattle.floats.proofs.Less.{le-or-lt}
@@ -99,6 +100,11 @@ key-neg m e = ap placed (finite-bits binary32 true m e) ∙ placed-high (2147483
 between : (s : Bool) (m : ℕ) (e : ℤ) → T (fits binary32 (fin s m e)) → (8388607 < totalKey (fin s m e)) × (totalKey (fin s m e) < 4286578688)
 between true m e h = (omega (arith, key-neg m e, pattern-lt binary32 true m e h), omega (arith, key-neg m e))
 between false m e h = (omega (arith, key-pos m e h), omega (arith, key-pos m e h, pattern-lt binary32 false m e h))
+
+pub finite-before : (x : Float) → T (fits binary32 x) → finite x ≡ true → totalKey x < 4294967295
+finite-before nan h f = absurd (false≢true f)
+finite-before (inf s) h f = absurd (false≢true f)
+finite-before (fin s m e) h f = omega (arith, between s m e h .1)
 
 -- ---- by the numbers
 pub lt-not-after : (x y : Float) → T (fits binary32 x) → T (fits binary32 y) → lt x y ≡ true → totalKey x < totalKey y

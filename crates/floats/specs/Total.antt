@@ -3,6 +3,7 @@ use Prim.Native.Nat.{ℕ, _+_, _-_}
 use mathlib.Core.Bool.{Bool, cond}
 use lib.Dec.{leb}
 use lib.Ieee.{Float, binary32, toBits, ofBits}
+use lib.Ieee.Scale.{finite}
 
 -- where a bit pattern stands: first the negatives, the larger pattern before the smaller; then the others, by their patterns
 abbrev pub placed : ℕ → ℕ
@@ -11,6 +12,10 @@ placed b = cond (leb 2147483648 b) (4294967295 - b) (2147483648 + b)
 -- where a value stands
 abbrev pub totalKey : Float → ℕ
 totalKey x = placed (toBits binary32 x)
+
+-- where a finite value stands, and past all of those where it is not finite
+abbrev pub finiteKey : Float → ℕ
+finiteKey x = cond (finite x) (totalKey x) 4294967295
 
 -- the bit pattern that stands at a place
 abbrev pub unplaced : ℕ → ℕ

@@ -52,53 +52,22 @@ pub fn candidates(
     run_tops(s, b, dip, first, last, &held[..h], out, c)
 }
 
-// Writes the frames of the nuclei, in order, to the front of kept, and returns how many they are. Given are the level s,
-// the long runs first..=last and the syllable runs heads..=tails.
-fn frames_over(
-    s: &[f32],
-    pitch: &[f32],
-    first: &[u32],
-    last: &[u32],
-    heads: &[u32],
-    tails: &[u32],
-    b: Bounds,
-    p: Settings,
-    kept: &mut [u32],
-) -> usize
-    requires { ⌜ (length (now s) ≤ 2048) × (b .end ≤ length (now s)) × SpansLent (now first) (now last)
-        × SpansLent (now heads) (now tails) × (length (now s) ≤ length (now kept)) ⌝ }
-    ensures { λ r. ⌜ Front (nucleusFrames (now (s .entry)) (now (pitch .entry)) (spans (now (first .entry)) (now (last .entry)))
-        (spans (now (heads .entry)) (now (tails .entry))) b p) (now (kept .exit)) r ⌝ }
-{
-    let mut cands = [0u32; 4096];
-    let c = candidates(s, pitch, first, last, b, p.dip, &mut cands);
-    merged(s, heads, tails, p, &cands[..c], kept)
-}
-
-// Writes the frames of the nuclei, in order, to the front of kept, given the level s, and returns how many they are.
+// Writes the frames of the nuclei, in order, to the front of kept, given the level s, and returns how many they are. On the
+// way kept holds the candidates.
 fn nucleus_frames(s: &[f32], pitch: &[f32], b: Bounds, p: Settings, kept: &mut [u32]) -> usize
     requires { ⌜ (length (now s) ≤ 2048) × (b .end ≤ length (now s)) × (length (now pitch) ≤ 2048)
-        × (length (now s) ≤ length (now kept)) ⌝ }
+        × (4096 ≤ length (now kept)) ⌝ }
     ensures { λ r. ⌜ Front (nucleusFrames (now (s .entry)) (now (pitch .entry)) (longRuns (now (pitch .entry)))
         (syllableRuns (now (pitch .entry))) b p) (now (kept .exit)) r ⌝ }
 {
     let mut first = blank_list();
     let mut last = blank_list();
     let k = long_runs(pitch, &mut first, &mut last);
+    let c = candidates(s, pitch, &first[..k], &last[..k], b, p.dip, kept);
     let mut heads = blank_list();
     let mut tails = blank_list();
     let g = syllables_of(pitch, &first[..k], &last[..k], &mut heads, &mut tails);
-    frames_over(
-        s,
-        pitch,
-        &first[..k],
-        &last[..k],
-        &heads[..g],
-        &tails[..g],
-        b,
-        p,
-        kept,
-    )
+    merged(s, &heads[..g], &tails[..g], p, c, kept)
 }
 
 // Writes frames and their levels over the floor to the front of the two lists, and returns how many they are.
@@ -145,7 +114,7 @@ pub fn nuclei(
     };
     let mut s = [0.0f32; 2048];
     smoothed_db(db, &mut s);
-    let mut kept = [0u32; 2048];
+    let mut kept = [0u32; 4096];
     let n = db.len();
     let k = nucleus_frames(
         &s[..n],

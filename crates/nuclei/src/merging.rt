@@ -5,7 +5,7 @@ use runs::near::in_separate_runs;
 use smooth::extrema::shallow_valley;
 ghost use mathlib.Core.Path.{_≡_};
 ghost use Prim.Native.Nat.{_≤_, _<_};
-ghost use lib.ListN.{length};
+ghost use lib.ListN.{length, take};
 ghost use Rattle.lists.specs.Results.{Front};
 ghost use Rattle.lists.specs.Marks.{inOrder};
 ghost use Rattle.lists.specs.Stack.{stack, Kept, Falls};
@@ -67,26 +67,27 @@ fn push_merging(
     }
 }
 
-// Writes what is left of the candidates, in order, when those that are one nucleus are merged, to the front of kept, and
-// returns how many they are.
+// Merges those of the first c entries of cands that are one nucleus, writes what is left, in order, to the front of cands,
+// and returns how many they are.
 pub fn merged(
     s: &[f32],
     heads: &[u32],
     tails: &[u32],
     p: Settings,
-    cands: &[u32],
-    kept: &mut [u32],
+    c: usize,
+    cands: &mut [u32],
 ) -> usize
-    requires { ⌜ (length (now s) ≤ 2048) × (length (now s) ≤ length (now kept)) × SpansLent (now heads) (now tails) ⌝ }
+    requires { ⌜ (length (now s) ≤ 2048) × (length (now s) ≤ length (now cands)) × (c ≤ length (now cands))
+        × SpansLent (now heads) (now tails) ⌝ }
     ensures { λ r. ⌜ Front (merged (oneNucleus (now (s .entry)) (spans (now (heads .entry)) (now (tails .entry))) p)
-        (louder (now (s .entry))) (inOrder (now (cands .entry)) (length (now (s .entry))))) (now (kept .exit)) r ⌝ }
+        (louder (now (s .entry))) (inOrder (take c (now (cands .entry))) (length (now (s .entry))))) (now (cands .exit)) r ⌝ }
 {
-    let m = marks(cands);
+    let m = marks(&cands[..c]);
     let mut k: usize = 0;
     let mut i: usize = 0;
     while i < s.len() {
         if m[i] == 1 {
-            k = push_merging(s, heads, tails, p, kept, k, i as u32);
+            k = push_merging(s, heads, tails, p, cands, k, i as u32);
         }
         i += 1;
     }

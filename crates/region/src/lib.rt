@@ -2,11 +2,10 @@
 ghost use mathlib.Core.Path.{_≡_};
 ghost use mathlib.Core.Bool.{cond};
 ghost use mathlib.Core.List.{map};
-ghost use Prim.Native.Nat.{_+_, _-_, _<_, _≤_, min};
-ghost use lib.ListN.{length, getD};
-ghost use lib.Ieee.Scale.{finite};
-ghost use Rattle.floats.specs.Total.{totalKey, valueOf};
-ghost use Rattle.lists.specs.Results.{overlay, Listed, filter};
+ghost use Prim.Native.Nat.{_+_, _<_, _≤_, min};
+ghost use lib.ListN.{length, getD, take};
+ghost use Rattle.floats.specs.Total.{finiteKey, valueOf};
+ghost use Rattle.lists.specs.Results.{overlay};
 ghost use Rattle.lists.specs.Sorted.{sorted};
 ghost use Rattle.region.specs.Defaults.{defaults};
 ghost use Rattle.region.specs.Percentile.{tenthOf, floorOf};
@@ -54,47 +53,40 @@ pub struct Bounds {
     pub end: usize,
 }
 
-// Writes where each finite dB stands in the total order to the front of keys, by frames, and returns how many they are.
-fn finite_keys(db: &[f32], keys: &mut [u32]) -> usize
+// Writes where each dB stands among the finite ones to the front of keys, by frames.
+fn finite_keys(db: &[f32], keys: &mut [u32])
     requires { ⌜ length (now db) ≤ length (now keys) ⌝ }
-    ensures { λ r. ⌜ Listed (map totalKey (filter finite (now (db .entry)))) (now (keys .entry)) (now (keys .exit)) r ⌝ }
+    ensures { λ _. ⌜ now (keys .exit) ≡ overlay (map finiteKey (now (db .entry))) (now (keys .entry)) ⌝ }
 {
-    let mut n = 0;
     let mut i = 0;
     while i < db.len() {
-        let d = db[i];
-        if floats::plain::is_finite(d) {
-            keys[n] = floats::total::total_key(d);
-            n += 1;
-        }
+        keys[i] = floats::total::finite_key(db[i]);
         i += 1;
     }
-    n
 }
 
-// The key at the place after `below` of the sorted keys, where x is the one at `below`; x itself at the last place.
-fn key_above(keys: &[u32], below: u32, x: u32) -> u32
-    requires { ⌜ below < length (now keys) ⌝ }
-    requires { ⌜ length (now keys) ≤ 2048 ⌝ }
+// The key at the place after `below` of the sorted keys, where x is the one at `below`; x itself where that is the last
+// place that counts.
+fn key_above(keys: &[u32], below: u32, last: u32, x: u32) -> u32
+    requires { ⌜ (below ≤ last) × (last < length (now keys)) × (length (now keys) ≤ 2048) ⌝ }
     requires { ⌜ x ≡ getD (sorted (now keys)) below 0 ⌝ }
-    ensures { λ r. ⌜ r ≡ getD (sorted (now (keys .entry))) (min (below + 1) (length (now (keys .entry)) - 1)) 0 ⌝ }
+    ensures { λ r. ⌜ r ≡ getD (sorted (now (keys .entry))) (min (below + 1) last) 0 ⌝ }
 {
-    if below + 1 < keys.len() as u32 {
+    if below < last {
         return select::next(keys, below, x);
     }
     x
 }
 
-// The 10th percentile of the values that stand at some places in the total order.
-fn tenth(keys: &[u32]) -> f32
-    requires { ⌜ 0 < length (now keys) ⌝ }
-    requires { ⌜ length (now keys) ≤ 2048 ⌝ }
-    ensures { λ r. ⌜ r ≡ tenthOf (map valueOf (sorted (now (keys .entry)))) ⌝ }
+// The 10th percentile of the values that stand at the first n of some places, sorted.
+fn tenth(keys: &[u32], n: u32) -> f32
+    requires { ⌜ (0 < n) × (n ≤ length (now keys)) × (length (now keys) ≤ 2048) ⌝ }
+    ensures { λ r. ⌜ r ≡ tenthOf (map valueOf (take n (sorted (now (keys .entry))))) ⌝ }
 {
-    let last = keys.len() as u32 - 1;
+    let last = n - 1;
     let below = last / 10;
     let x = select::kth(keys, below);
-    let y = key_above(keys, below, x);
+    let y = key_above(keys, below, last, x);
     let lo = std::num::f32_to_f64_with_nan(floats::total::from_total_key(x));
     let hi = std::num::f32_to_f64_with_nan(floats::total::from_total_key(y));
     let rank = 0.1 * (last as f64);
@@ -108,11 +100,13 @@ pub fn floor_db(db: &[f32]) -> Floor
     ensures { λ r. ⌜ r ≡ floorOf (now (db .entry)) ⌝ }
 {
     let mut keys = [0u32; 2048];
-    let n = finite_keys(db, &mut keys);
+    finite_keys(db, &mut keys);
+    // all but the last place of all, where the dB stand that are not finite
+    let n = select::count(&keys[..db.len()], 0xffff_fffe);
     if n == 0 {
         return Floor::Nothing;
     }
-    Floor::At(tenth(&keys[..n]))
+    Floor::At(tenth(&keys[..db.len()], n))
 }
 
 // What a frame's dB must exceed to be speech; +infinity over no floor, which nothing exceeds.

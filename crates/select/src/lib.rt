@@ -18,7 +18,7 @@ fn one(k: u32, x: u32) -> u32
 }
 
 // How many keys are at most x.
-fn count(keys: &[u32], x: u32) -> u32
+pub fn count(keys: &[u32], x: u32) -> u32
     requires { ⌜ length (now keys) < 4294967296 ⌝ }
     ensures { λ r. ⌜ r ≡ atMost x (now (keys .entry)) ⌝ }
 {

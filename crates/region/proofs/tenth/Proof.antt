@@ -6,7 +6,8 @@ use native.Mathlib.Omega.{arith}
 use borrow.Author.Needs.{needs}
 use lib.Dec.{leb}
 use lib.IntN.{pos}
-use lib.ListN.{length, getD, length-map}
+use lib.ListN.{length, getD, take, length-map}
+use lib.Seq.{getD-take, length-take-le}
 use lib.Ieee.{Float, nan, binary64, mul, ofInt, ofBits, round}
 use Rattle.floats.specs.Total.{valueOf}
 use Rattle.lists.specs.Sorted.{sorted}
@@ -16,9 +17,6 @@ use Rattle.region.specs.Percentile.{rankOf, byProportion}
 use Rattle.region.proofs.Quiet.{value-at, tenth-is}
 use Rattle.region.proofs.tenth.Statement.{statement}
 use Rattle.region.proofs.tenth.Tie as tie
-
-cast-last : tie.Need-cast-last
-cast-last c = search needs
 
 sub-last : tie.Need-sub-last
 sub-last c = search needs
@@ -62,26 +60,27 @@ returns c =
     let a = f .before .before in
     let s = a .before .before .before in
     let keys = s .args .keys .now in
-    let l = sorted keys in
+    let n = s .args .n in
+    let l = take n (sorted keys) in
     let m = map valueOf l in
-    let n : length l ≡ length keys = length-sort leb keys in
-    let last = length keys - 1 in
+    let many : length l ≡ n = length-take-le n (sorted keys) (omega (arith, length-sort leb keys)) in
+    let last = n - 1 in
     let b = last / 10 in
     let k = min (b + 1) last in
     let lo-is : f .f32-to-f64-with-nan .result ≡ getD m b nan =
-    f .f32-to-f64-with-nan .ensures ∙ f .before .from-total-key .ensures ∙ ap valueOf (a .before .kth .ensures) ∙ value-at l b (omega arith) in
+    f .f32-to-f64-with-nan .ensures ∙ f .before .from-total-key .ensures ∙ ap valueOf (a .before .kth .ensures ∙ sym (getD-take n (sorted keys) b 0 (omega arith))) ∙ value-at l b (omega arith) in
     let hi-is : w .f32-to-f64-with-nan2 .result ≡ getD m k nan =
-    w .f32-to-f64-with-nan2 .ensures ∙ w .before .from-total-key2 .ensures ∙ ap valueOf (a .key-above .ensures) ∙ value-at l k (omega arith) in
-    let size : length m ≡ length keys = length-map l valueOf ∙ n in
+    w .f32-to-f64-with-nan2 .ensures ∙ w .before .from-total-key2 .ensures ∙ ap valueOf (a .key-above .ensures ∙ sym (getD-take n (sorted keys) k 0 (omega arith))) ∙ value-at l k (omega arith) in
+    let size : length m ≡ n = length-map l valueOf ∙ many in
     c .round-to-f32 .ensures
     ∙ ap (λ (t : Float). byProportion (mul binary64 t (ofInt binary64 (pos last))) b (f .f32-to-f64-with-nan .result) (w .f32-to-f64-with-nan2 .result)) literal
-    ∙ ap (λ (x : Float). byProportion (rankOf (length keys)) b x (w .f32-to-f64-with-nan2 .result)) lo-is
-    ∙ ap (λ (x : Float). byProportion (rankOf (length keys)) b (getD m b nan) x) hi-is
-    ∙ ap (λ (z : ℕ). byProportion (rankOf (length keys)) b (getD m b nan) (getD m (min (b + 1) (z - 1)) nan)) (sym size)
-    ∙ tenth-is m (length keys) size (s .pre .1)
+    ∙ ap (λ (x : Float). byProportion (rankOf n) b x (w .f32-to-f64-with-nan2 .result)) lo-is
+    ∙ ap (λ (x : Float). byProportion (rankOf n) b (getD m b nan) x) hi-is
+    ∙ ap (λ (z : ℕ). byProportion (rankOf n) b (getD m b nan) (getD m (min (b + 1) (z - 1)) nan)) (sym size)
+    ∙ tenth-is m n size (omega (arith, s .pre))
 
 pub tenth-spec : {M : Type 1} → statement M
 tenth-spec =
     tie.close
-    (tie.spec cast-last sub-last kth-requires key-above-requires from-total-key-requires f32-to-f64-with-nan-requires from-total-key-requires-2
+    (tie.spec sub-last kth-requires key-above-requires from-total-key-requires f32-to-f64-with-nan-requires from-total-key-requires-2
     f32-to-f64-with-nan-requires-2 int-to-float-rank int-to-float-round-to-f32 round-to-f32-requires returns)
