@@ -13,7 +13,7 @@ placed b = cond (leb 2147483648 b) (4294967295 - b) (2147483648 + b)
 abbrev pub totalKey : Float → ℕ
 totalKey x = placed (toBits binary32 x)
 
--- where a finite value stands, and past all of those where it is not finite
+-- where a value stands if it is finite, and past all that are where it is not
 abbrev pub finiteKey : Float → ℕ
 finiteKey x = cond (finite x) (totalKey x) 4294967295
 

@@ -101,7 +101,7 @@ pub fn floor_db(db: &[f32]) -> Floor
 {
     let mut keys = [0u32; 2048];
     finite_keys(db, &mut keys);
-    // all but the last place of all, where the dB stand that are not finite
+    // how many are finite: the others have the last key there is
     let n = select::count(&keys[..db.len()], 0xffff_fffe);
     if n == 0 {
         return Floor::Nothing;
