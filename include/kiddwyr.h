@@ -41,8 +41,8 @@ extern "C" {
 #endif
 
 /* The version of this header, as a text and as a number: 10,000 times its first part, 100 times the second, and the third. */
-#define KIDDWYR_VERSION "4.0.0"
-#define KIDDWYR_VERSION_NUMBER 40000
+#define KIDDWYR_VERSION "5.0.0"
+#define KIDDWYR_VERSION_NUMBER 50000
 
 /* The longest take, in frames and in samples. */
 #define KIDDWYR_MAX_FRAMES 2048
@@ -73,7 +73,9 @@ struct kiddwyr_settings {
 };
 
 /* What settings start from: struct kiddwyr_settings s = KIDDWYR_DEFAULTS; */
-#define KIDDWYR_DEFAULTS {10.0f, 2.0f, 6}
+#define KIDDWYR_DEFAULTS {10.0f, 3.0f, 6}
+/* What they started from before version 5, for lessons that were marked so. */
+#define KIDDWYR_CLASSIC {10.0f, 2.0f, 6}
 
 /* The nucleus of a syllable, or an extra candidate for one. */
 struct kiddwyr_nucleus {
@@ -113,6 +115,10 @@ struct kiddwyr_marks {
 
 /* The version of the library, as KIDDWYR_VERSION_NUMBER has the header's. */
 uint32_t kiddwyr_version(void);
+
+/* KIDDWYR_DEFAULTS and KIDDWYR_CLASSIC as the library has them, for callers that do not see a macro. */
+struct kiddwyr_settings kiddwyr_defaults(void);
+struct kiddwyr_settings kiddwyr_classic(void);
 
 /* Marks the frames of speech with 1 and all others with 0: n marks. Refuses with 1, 3, 4, 10. */
 struct kiddwyr_answer kiddwyr_speech_marks(
@@ -169,7 +175,7 @@ struct kiddwyr_answer kiddwyr_boundaries_with(
     struct kiddwyr_settings settings,
     uint32_t *out, size_t out_room);
 
-/* The same under KIDDWYR_DEFAULTS. Refuses with 1, 2, 4, 5, 7, 8, 10. */
+/* The same under KIDDWYR_DEFAULTS: a dip of 3 dB, where versions before 5 had 2. Refuses with 1, 2, 4, 5, 7, 8, 10. */
 struct kiddwyr_answer kiddwyr_boundaries(
     const float *db, size_t db_len,
     const float *pitch, size_t pitch_len,

@@ -72,11 +72,40 @@ static void call_each(struct kiddwyr_settings s, uint32_t refusal)
     CHECK(m.nuclei == (good ? 1 : 0) && m.boundaries == (good ? 2 : 0) && m.extras == m.edges);
 }
 
+static bool same(struct kiddwyr_settings s, struct kiddwyr_settings t)
+{
+    return s.margin == t.margin && s.dip == t.dip && s.gap == t.gap;
+}
+
+/* The sets that have a name are the library's, and two nuclei with a dip of 2 dB and a break of pitch between them
+ * are parted at the break's edges by the defaults, and at the lowest frame by the classic set. */
+static void call_under_each_set(void)
+{
+    const struct kiddwyr_settings defaults = KIDDWYR_DEFAULTS, classic = KIDDWYR_CLASSIC;
+    const struct kiddwyr_nucleus given[] = {{2, NAN}, {10, NAN}};
+    enum { FRAMES = 13 };
+    CHECK(same(kiddwyr_defaults(), defaults) && same(kiddwyr_classic(), classic) && !same(defaults, classic));
+    for (int i = 0; i < FRAMES; i++) {
+        db[i] = i == 6 ? -30.0f : -20.0f;
+        voiced[i] = i <= 4 || 8 <= i ? 1.0f : 0.0f;
+        pitch[i] = i <= 4 ? 200.0f : 238.0f * voiced[i];
+    }
+    struct kiddwyr_answer a = kiddwyr_boundaries(
+        db, FRAMES, pitch, FRAMES, voiced, FRAMES, 0, FRAMES, given, 2, boundaries, ROOM);
+    CHECK(a.refusal == KIDDWYR_ADMITTED && a.count == 4);
+    CHECK(boundaries[0] == 0 && boundaries[1] == 5 && boundaries[2] == 8 && boundaries[3] == 13);
+    a = kiddwyr_boundaries_with(
+        db, FRAMES, pitch, FRAMES, voiced, FRAMES, 0, FRAMES, given, 2, classic, boundaries, ROOM);
+    CHECK(a.refusal == KIDDWYR_ADMITTED && a.count == 3);
+    CHECK(boundaries[0] == 0 && boundaries[1] == 6 && boundaries[2] == 13);
+}
+
 int main(void)
 {
     struct kiddwyr_settings s = KIDDWYR_DEFAULTS;
     const struct kiddwyr_nucleus given = {15, NAN};
     CHECK(kiddwyr_version() == KIDDWYR_VERSION_NUMBER);
+    call_under_each_set();
     make_take();
     call_each(s, KIDDWYR_ADMITTED);
     s.gap = 1001;

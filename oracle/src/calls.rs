@@ -3,7 +3,7 @@
 
 use crate::bytes::Writer;
 use crate::cases;
-use crate::entry::{self, Settings, MAX_FRAMES, MAX_SAMPLES};
+use crate::entry::{self, Settings, CLASSIC, DEFAULTS, MAX_FRAMES, MAX_SAMPLES};
 use crate::generate::{dip_beside, length, loudness, pitches, setting};
 use crate::limits;
 use crate::random::Random;
@@ -111,7 +111,22 @@ pub fn fixed(kind: u8) -> Vec<Vec<u8>> {
         let nuclei: &[u32] = if n > 2 { &[1] } else { &[] };
         Call::of(&take, (0, n as u32), nuclei)
     });
+    // What tells the defaults from the classic set: nothing but the boundaries has an entry that takes
+    // no settings.
+    let settings: &[Settings] = match kind {
+        42 => &[DEFAULTS, CLASSIC],
+        43 => &[DEFAULTS],
+        _ => &[],
+    };
+    let dipped = cases::DIPS.iter().flat_map(|&db| {
+        settings.iter().map(move |&settings| {
+            let mut call = Call::of(&cases::dipped(db), (0, 13), &[2, 10]);
+            call.settings = settings;
+            write(kind, &call)
+        })
+    });
     let answered = calls.iter().chain(&one_bit).map(|call| write(kind, call));
+    let answered = answered.chain(dipped);
     let answered = answered.chain(limits::inputs(kind));
     answered.chain(refused(kind)).collect()
 }
@@ -183,6 +198,9 @@ pub fn input(kind: u8, r: &mut Random, n: Option<usize>) -> Vec<u8> {
         // A file's tracks are equally long and hold no samples.
         let file = file(r, &call);
         return damaged(r, file);
+    }
+    if kind == 43 && r.one_in(2) {
+        stretch(r, &mut call);
     }
     for _ in 0..r.pick(&[0, 0, 0, 0, 0, 0, 1, 2]) {
         fault(r, &mut call);
@@ -334,6 +352,35 @@ fn dip(r: &mut Random, level: &[f32], pitch: &[f32]) -> f32 {
     }
     let near = (a + r.below(5)).saturating_sub(2).min(last);
     within(r, (level[near] - level[a]).abs())
+}
+
+/// Stretches the loudness until a valley between two nuclei in different syllable runs is about as deep
+/// as the dip of one of the sets with a name, for the entry to which no dip can be given.
+fn stretch(r: &mut Random, c: &mut Call) {
+    let level = probe::level(&c.db);
+    let runs = probe::syllable_runs(&entry::f0(&c.pitch, &[]));
+    let run = |at: usize| probe::run_of(&runs, at);
+    let pairs = c.nuclei.windows(2).map(|w| (w[0] as usize, w[1] as usize));
+    let apart: Vec<_> = pairs
+        .filter(|&(a, b)| run(a).is_some() && run(b).is_some() && run(a) != run(b))
+        .collect();
+    if apart.is_empty() {
+        return;
+    }
+    let (a, b) = r.pick(&apart);
+    let lowest = level[a..=b].iter().copied().fold(f32::INFINITY, f32::min);
+    let depth = level[a].min(level[b]) - lowest;
+    let wanted = match r.below(4) {
+        0 => CLASSIC.dip,
+        1 => r.real(1.5, 3.5) as f32,
+        _ => DEFAULTS.dip,
+    };
+    let wanted = r.pick(&[wanted, wanted, wanted.next_up(), wanted.next_down()]);
+    if depth > 0.0 {
+        for d in c.db.iter_mut().filter(|d| d.is_finite()) {
+            *d = (*d * (wanted / depth)).clamp(-1000.0, 1000.0);
+        }
+    }
 }
 
 /// The frames where voicing starts or ends.

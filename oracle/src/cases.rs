@@ -1,11 +1,11 @@
 //! The specification's own cases, and the smallest inputs of places where a natural reading goes
 //! wrong, run on the reference. Each says what comes out and what should.
 
-use crate::entry::{self, Answer, Given, Mark, Settings, BLANK, DEFAULTS, PITCH};
+use crate::entry::{self, Answer, Given, Mark, Settings, BLANK, CLASSIC, DEFAULTS, PITCH};
 use crate::take::{listing, Take};
 use std::fmt::Debug;
 use tonekit_f0::probe as f0;
-use tonekit_segment::probe as segment;
+use tonekit_segment::{probe as segment, SegmentParams};
 
 /// One case: its name, what it shows, and whether that came out.
 pub struct Case {
@@ -64,7 +64,7 @@ fn either(test: bool, yes: f32, no: f32) -> f32 {
 
 pub fn k1() -> Take {
     take(
-        DEFAULTS,
+        CLASSIC,
         16,
         |i| loudness((4..=11).contains(&i)),
         |i| either((5..=10).contains(&i), 200.0, 0.0),
@@ -75,7 +75,7 @@ pub fn k1() -> Take {
 /// K2 with `second` Hz in its second run; K3 is the same with 237.
 pub fn k2(second: f32) -> Take {
     take(
-        DEFAULTS,
+        CLASSIC,
         32,
         |i| loudness((4..=27).contains(&i)),
         |i| match i {
@@ -263,6 +263,25 @@ pub fn one_bit() -> [Take; 5] {
     ]
 }
 
+/// Two runs, as short and as near as they can be, with a break of pitch between them and one frame of
+/// another loudness in the middle: five levels dip by a fifth of what it lies below -20 dB.
+pub fn dipped(db: f32) -> Take {
+    take(
+        DEFAULTS,
+        13,
+        |i| either(i == 6, db, -20.0),
+        |i| match i {
+            0..=4 => 200.0,
+            8..=12 => 238.0,
+            _ => 0.0,
+        },
+        |_| 0.75,
+    )
+}
+
+/// What the frame of [`dipped`] is for levels that dip by nearly 2 dB, by 2, by 2.5, by nearly 3 and by 3.
+pub const DIPS: [f32; 5] = [-29.99999, -30.0, -32.5, -34.99999, -35.0];
+
 /// `speech` loud frames among 20.
 fn speech_frames(speech: usize) -> Vec<f32> {
     (0..20)
@@ -326,6 +345,26 @@ fn nuclei(take: &Take, region: (u32, u32)) -> Answer<Vec<u32>> {
     let mut list = vec![BLANK; take.db.len()];
     let found = entry::nuclei(&take.db, &take.pitch, take.settings, region, &mut list)?;
     Ok(list[..found].iter().map(|m| m.frame).collect())
+}
+
+/// Where the two nuclei of [`dipped`] are parted: by the entry that takes no settings, by the one that
+/// takes them under the classic set, and by the reference's own function that takes none.
+fn parted(db: f32) -> [Answer<Vec<u32>>; 3] {
+    let take = dipped(db);
+    let n = take.db.len();
+    let (db, pitch, voiced_p) = (&take.db, &take.pitch, &take.voiced_p);
+    let (all, nuclei) = ((0, n as u32), [2, 10]);
+    let (mut own, mut classic) = (vec![0; n + 1], vec![0; n + 1]);
+    let cut = |list: &[u32], found: Answer<usize>| found.map(|count| list[..count].to_vec());
+    let found = entry::boundaries(db, pitch, voiced_p, all, &nuclei, &mut own);
+    let with = entry::boundaries_with(db, pitch, voiced_p, CLASSIC, all, &nuclei, &mut classic);
+    let reference = tonekit_segment::boundaries(
+        &entry::energy(db),
+        &entry::f0(pitch, voiced_p),
+        &entry::range(all),
+        &entry::given_nuclei(&nuclei),
+    );
+    [cut(&own, found), cut(&classic, with), Ok(reference)]
 }
 
 /// What comes of the takes in which one bit decides: nuclei, extras, speech marks, extras, splits.
@@ -461,6 +500,26 @@ pub fn all() -> Vec<Case> {
                 ),
                 (vec![11], (vec![12, 21], vec![11, 14, 21, 31])),
             ),
+        ),
+        case(
+            "dip",
+            "the break parts two nuclei below 3 dB by the defaults, below 2 by the classic set and the Rust",
+            same(DIPS.map(parted), {
+                let (edges, lowest) = (Ok(vec![0, 5, 8, 13]), Ok(vec![0, 6, 13]));
+                let apart = [edges.clone(), lowest.clone(), lowest.clone()];
+                [
+                    [(); 3].map(|()| edges.clone()),
+                    apart.clone(),
+                    apart.clone(),
+                    apart,
+                    [(); 3].map(|()| lowest.clone()),
+                ]
+            }),
+        ),
+        case(
+            "dip",
+            "the Rust's own defaults are the classic set",
+            same(SegmentParams::default(), CLASSIC.params()),
         ),
         case(
             "repair",

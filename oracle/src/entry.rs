@@ -18,7 +18,14 @@ pub struct Settings {
     pub gap: u32,
 }
 
+/// The settings where a call sets none.
 pub const DEFAULTS: Settings = Settings {
+    margin: 10.0,
+    dip: 3.0,
+    gap: 6,
+};
+/// The settings of old lessons, which are the reference's own defaults.
+pub const CLASSIC: Settings = Settings {
     margin: 10.0,
     dip: 2.0,
     gap: 6,
@@ -289,7 +296,8 @@ pub fn boundaries_with(
     Ok(put(list, found))
 }
 
-/// [`boundaries_with`] under the reference's own defaults; no setting is given or tested.
+/// [`boundaries_with`] under [`DEFAULTS`], which are not the reference's own; no setting is given or
+/// tested.
 pub fn boundaries(
     db: &[f32],
     pitch: &[f32],
@@ -306,12 +314,7 @@ pub fn boundaries(
         nuclei,
         &[(list.len(), 1)],
     ))?;
-    let found = tonekit_segment::boundaries(
-        &energy(db),
-        &f0(pitch, voiced_p),
-        &range(region),
-        &given_nuclei(nuclei),
-    );
+    let found = found_boundaries(db, pitch, voiced_p, DEFAULTS, region, nuclei);
     Ok(put(list, found))
 }
 

@@ -333,7 +333,7 @@ fn against_middle(r: &mut Random) -> [f32; 3] {
 /// A margin or a dip.
 pub fn setting(r: &mut Random) -> f32 {
     match r.below(8) {
-        0..=2 => r.pick(&[10.0, 2.0]),
+        0..=2 => r.pick(&[10.0, 3.0, 2.0]),
         3 | 4 => r.pick(&[0.0, -0.0, 0.1, 0.5, 20.0, 30.0, 40.0, 80.0, 200.0]),
         5 => r.below(801) as f32 / 4.0,
         6 => f32::from_bits(r.between(1, 0x4348_0000) as u32),

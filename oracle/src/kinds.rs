@@ -5,7 +5,7 @@
 //! has no answer.
 
 use crate::bytes::{Reader, Writer};
-use crate::entry::{self, MAX_FRAMES};
+use crate::entry::{self, Settings, DEFAULTS, MAX_FRAMES};
 use crate::stages;
 use exact::Octave;
 use tonekit_core::{voiced_runs, F0Track};
@@ -276,10 +276,9 @@ fn floor(r: &mut Reader) -> Option<Writer> {
 
 /// The reference's parameters with this margin; nothing read here reads the others.
 fn margin(r: &mut Reader) -> Option<SegmentParams> {
-    Some(SegmentParams {
-        speech_margin_db: r.f32()?,
-        ..SegmentParams::default()
-    })
+    let margin = r.f32()?;
+    let settings = Settings { margin, ..DEFAULTS };
+    Some(settings.params())
 }
 
 fn threshold(r: &mut Reader) -> Option<Writer> {

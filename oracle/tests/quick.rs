@@ -2,12 +2,12 @@
 
 use judge::bytes::{Reader, Writer};
 use judge::cases;
-use judge::entry::{self, Given, Lists, Mark, Settings, DEFAULTS, PITCH, REPAIRABLE};
+use judge::entry::{self, Given, Lists, Mark, Settings, CLASSIC, DEFAULTS, PITCH, REPAIRABLE};
 use judge::fuzz::{self, Outcome};
 use judge::kinds::{Kind, KINDS, UNTOUCHED};
 use judge::random::Random;
 use judge::take::{listing, Take};
-use judge::{generate, replay, second};
+use judge::{generate, replay, second, stages};
 
 fn kind(word: &str) -> &'static Kind {
     Kind::by_words(word).expect("a kind")[0]
@@ -71,6 +71,26 @@ fn drawn_inputs_are_answered() {
             assert!(kind.answer(&input).is_some(), "{}", kind.name);
         }
     }
+}
+
+/// Of the boundaries that are drawn, some are others under the classic set.
+#[test]
+fn the_draws_tell_the_default_dip() {
+    let kind = kind("boundaries");
+    let classic = |input: &[u8]| {
+        stages::boundaries(
+            &mut Reader::new(input),
+            |db, pitch, voiced_p, region, nuclei, list| {
+                entry::boundaries_with(db, pitch, voiced_p, CLASSIC, region, nuclei, list)
+            },
+        )
+    };
+    let told = (0..2000).filter(|&index| {
+        let input = generate::input(kind.number, &mut Random::of(7, kind.number, index));
+        kind.answer(&input) != classic(&input).map(|w| w.bytes)
+    });
+    let told = told.count();
+    assert!(told > 10, "{told}");
 }
 
 #[cfg(not(feature = "rattle"))]

@@ -104,7 +104,17 @@ impl fmt::Display for Refusal {
 
 impl Error for Refusal {}
 
-/// How speech and nuclei are told apart. The default is 10 dB, 2 dB and 6 frames.
+/// How speech and nuclei are told apart.
+///
+/// The default is 10 dB, 3 dB and 6 frames. Before version 5 its dip was 2 dB, as in [`Settings::classic`].
+///
+/// ```
+/// use kiddwyr::Settings;
+///
+/// let settings = Settings { margin: 10.0, dip: 3.0, gap: 6 };
+/// assert_eq!(Settings::default(), settings);
+/// assert_eq!(Settings::classic(), Settings { dip: 2.0, ..settings });
+/// ```
 #[repr(C)]
 #[derive(Clone, Copy, Debug, PartialEq)]
 pub struct Settings {
@@ -118,11 +128,16 @@ pub struct Settings {
 
 impl Default for Settings {
     fn default() -> Self {
-        Settings {
-            margin: 10.0,
-            dip: 2.0,
-            gap: 6,
-        }
+        // SAFETY: the function takes nothing and answers three numbers.
+        unsafe { raw::kiddwyr_defaults() }
+    }
+}
+
+impl Settings {
+    /// The settings of lessons that were marked before version 5: 10 dB, 2 dB and 6 frames.
+    pub fn classic() -> Self {
+        // SAFETY: as above.
+        unsafe { raw::kiddwyr_classic() }
     }
 }
 
@@ -344,7 +359,7 @@ pub fn boundaries_with(
     answer.result()
 }
 
-/// [`boundaries_with`] under the default settings.
+/// [`boundaries_with`] under the default settings: a dip of 3 dB, where versions before 5 had 2.
 pub fn boundaries(
     db: &[f32],
     pitch: &[f32],

@@ -38,6 +38,10 @@ pub struct Marks {
 extern "C" {
     pub fn kiddwyr_version() -> u32;
 
+    pub fn kiddwyr_defaults() -> Settings;
+
+    pub fn kiddwyr_classic() -> Settings;
+
     pub fn kiddwyr_speech_marks(
         db: *const f32,
         db_len: usize,

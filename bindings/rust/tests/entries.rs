@@ -37,7 +37,7 @@ fn k1() -> Call {
     let voiced = |i: usize| (5..=10).contains(&i);
     let loud = |i: usize| (4..=11).contains(&i);
     Call {
-        settings: Settings::default(),
+        settings: Settings::classic(),
         region: 4..12,
         db: (0..n)
             .map(|i| if loud(i) { -20.0 } else { -60.0 })
@@ -268,6 +268,29 @@ fn k1_stage_by_stage() {
         call.boundaries.fill(77);
         assert_eq!(boundaries(&mut call), Ok(2));
         assert_eq!(call.boundaries[..2], [4, 12]);
+    }
+}
+
+/// Two nuclei with a dip of 2 dB and a break of pitch between them: parted at the break's edges by the
+/// defaults, and at the lowest frame by the classic set.
+#[test]
+fn the_default_dip_parts_nuclei() {
+    let mut call = k1();
+    call.region = 0..13;
+    call.db = vec![-20.0; 13];
+    call.db[6] = -30.0;
+    call.pitch = [[200.0; 5].as_slice(), &[0.0; 3], &[238.0; 5]].concat();
+    call.voiced_p = call.pitch.iter().map(|&p| f32::from(p > 0.0)).collect();
+    call.given = vec![nucleus(2, f32::NAN), nucleus(10, f32::NAN)];
+    assert_eq!(call.boundaries(), Ok(4));
+    assert_eq!(call.boundaries[..4], [0, 5, 8, 13]);
+    for (settings, parted) in [
+        (Settings::default(), vec![0, 5, 8, 13]),
+        (Settings::classic(), vec![0, 6, 13]),
+    ] {
+        call.settings = settings;
+        assert_eq!(call.boundaries_with(), Ok(parted.len()));
+        assert_eq!(call.boundaries[..parted.len()], parted);
     }
 }
 

@@ -3,6 +3,7 @@
 ghost use mathlib.Core.Path.{_≡_};
 ghost use Prim.Native.Nat.{_≤_};
 ghost use lib.ListN.{length};
+ghost use Rattle.region.specs.Defaults.{defaults, classic};
 ghost use Rattle.entries.specs.Stages.{MarksCall, RegionCall, RepairCall, RecoverCall, BoundariesWithCall, BoundariesCall};
 ghost use Rattle.chain.specs.Chain.{takeOf};
 ghost use Rattle.kiddwyr.specs.Records.{framesIn, listsOf, NucleiCall, ExtrasCall, ChainCall};
@@ -247,13 +248,29 @@ pub extern "C" fn kiddwyr_recover(
     entries::stages::recover(pitch, samples, speech, vowel)
 }
 
+// The settings where a call sets none.
+#[no_mangle]
+pub extern "C" fn kiddwyr_defaults() -> Settings
+    ensures { λ r. ⌜ r ≡ defaults ⌝ }
+{
+    region::default_settings()
+}
+
+// The settings of old lessons.
+#[no_mangle]
+pub extern "C" fn kiddwyr_classic() -> Settings
+    ensures { λ r. ⌜ r ≡ classic ⌝ }
+{
+    region::classic_settings()
+}
+
 // The version, as the file VERSION has it: 10,000 times its first part, 100 times the second, and the third.
-const VERSION: u32 = 40000;
+const VERSION: u32 = 50000;
 
 // The version of the library.
 #[no_mangle]
 pub extern "C" fn kiddwyr_version() -> u32
-    ensures { λ r. ⌜ r ≡ 40000 ⌝ }
+    ensures { λ r. ⌜ r ≡ 50000 ⌝ }
 {
     VERSION
 }

@@ -9,7 +9,7 @@ use Rattle.lists.specs.Marks.{member, inOrder}
 use Rattle.powers.specs.Pitch.{breaksIn, stepIn, octaveIn}
 use Rattle.smooth.specs.Level.{means, levels}
 use Rattle.smooth.specs.Extrema.{isExtremum, localExtrema, firstBest, extremumMiddle, furthest, shallow}
-use Rattle.region.specs.Defaults.{defaults}
+use Rattle.region.specs.Defaults.{defaults, classic}
 use Rattle.region.specs.Percentile.{tenthOf}
 use Rattle.region.specs.Speech.{regionIn}
 use Rattle.lists.specs.Grouped.{attach, grouped}
@@ -34,9 +34,9 @@ use Rattle.boundaries.specs.Joints.{joint, joints, jointsInside}
 use Rattle.boundaries.specs.Edges.{between, pauseEdges, creaks, inCreak, voicingEdges}
 use Rattle.boundaries.specs.Minima.{inLongSpan, minima}
 use Rattle.boundaries.specs.Boundaries.{chosen, boundariesIn}
-use Rattle.admit.specs.Values.{dbAdmitted, pitchAdmitted, allOf}
+use Rattle.admit.specs.Values.{dbAdmitted, pitchAdmitted, allOf, rising}
 use Rattle.admit.specs.First.{firstOf, passes, firstFailed}
-use Rattle.admit.specs.Refusals.{tested, refusal, regionRefusal, chainRefusal}
+use Rattle.admit.specs.Refusals.{tested, refusal, regionRefusal, boundariesRefusal, boundariesWithRefusal, chainRefusal}
 use Rattle.entries.specs.Stages.{ifAdmitted, spanned}
 use Rattle.chain.specs.Chain.{pitchesOf, readingOf, chainOf}
 use Rattle.take.specs.Fields.{halfAt, wordAt}
@@ -49,7 +49,7 @@ use Rattle.known.specs.Table.{Right, known}
 
 pub known-right : Each Right known
 unfolding known chainOf overlay regionRefusal ifAdmitted spanned eq printed textOf flatMap readingOf pitchesOf filter keep means levels isExtremum
-    localExtrema someFrame allFrames firstFrame lastFrame firstBest extremumMiddle furthest shallow defaults tenthOf regionIn attach grouped
+    localExtrema someFrame allFrames firstFrame lastFrame firstBest extremumMiddle furthest shallow defaults classic tenthOf regionIn attach grouped
     voicedFrames voicedRuns longRuns awayBy runOf separate breaksFrom syllablesOf syllableRuns gaps dropoutsOf dropouts breaksIn member inOrder
     voicedIn neighbours beside repairedAmong repaired tabulate estimates recoveredFrom recoveredBy octaveIn pushBy mergeBy merged pitchNear
     speechByLevel voicedPeak ontoRun peaksOnto voicedPeaks runsHeld unheldFrom unheld hasTop standsAlone topOf onFlank topsOf candidates oneNucleus
@@ -57,5 +57,5 @@ unfolding known chainOf overlay regionRefusal ifAdmitted spanned eq printed text
     edgesBetween extrasFrom edgesFrom extraFrames extraEdges extrasOf edgesOf clear tryAdd addAll joint joints jointsInside between pauseEdges creaks
     inCreak voicingEdges inLongSpan minima chosen boundariesIn dbAdmitted pitchAdmitted allOf firstOf passes firstFailed tested refusal chainRefusal
     halfAt wordAt agrees refusalBy records takeIn readTake glyph hexDigits decimalIn markLines pitchLines regionLine listing stepIn cross power nsdf
-    window narrow add sub mul div round ofInt toUnsigned toBits ofBits lt le ne
-known-right = (refl, (refl, (refl, (refl, (refl, (refl, (refl, (refl, (refl, (refl, ((refl, refl), (refl, (refl, (refl, (refl, (refl, (refl, (refl, (refl, (refl, (refl, (refl, (refl, (refl, tt))))))))))))))))))))))))
+    window rising boundariesRefusal boundariesWithRefusal narrow add sub mul div round ofInt toUnsigned toBits ofBits lt le ne
+known-right = (refl, (refl, (refl, (refl, (refl, (refl, (refl, (refl, (refl, (refl, (refl, ((refl, refl), (((refl, record { count = refl; entries = refl }), (refl, record { count = refl; entries = refl })), (((refl, record { count = refl; entries = refl }), (refl, record { count = refl; entries = refl })), (refl, (refl, (refl, (refl, (refl, (refl, (refl, (refl, (refl, (refl, (refl, (refl, (refl, tt)))))))))))))))))))))))))))

@@ -1,5 +1,5 @@
 -- The known takes and pitches of the specification, K1 to K8, and some more beside a limit, as rows of one table. Definitions only.
-use Prim.Native.Nat.{ℕ, zero, suc}
+use Prim.Native.Nat.{ℕ, zero, suc, _+_}
 use mathlib.Core.Path.{_≡_}
 use mathlib.Core.Bool.{Bool, true, false, _&&_}
 use mathlib.Core.List.{List, [], _∷_, _++_, map, flatMap}
@@ -7,9 +7,11 @@ use lib.IntN.{ℤ, pos}
 use lib.ListN.{length, replicate}
 use lib.Dec.{eqb}
 use lib.Ieee.{Float, binary32, binary64, round, neg, ofInt, toBits}
-use Rattle.region.specs.Defaults.{defaults}
+use Rattle.region.specs.Defaults.{defaults, classic}
+use Rattle.region.specs.declared.Settings.{Settings}
 use Rattle.nsdf.specs.Nsdf.{nsdf, window}
 use Rattle.floats.specs.Ratio.{ratio}
+use Rattle.lists.specs.Results.{overlay}
 use Rattle.nsdf.specs.declared.period.Estimate.{Estimate}
 use Rattle.nsdf.specs.declared.period.Estimate.the-variants.{Nothing, Hz}
 use Rattle.repair.specs.Repair.{repaired}
@@ -17,22 +19,27 @@ use Rattle.recover.specs.Recovered.{recoveredFrom}
 use Rattle.nuclei.specs.Nuclei.{framesOf}
 use Rattle.extra.specs.Extra.{extrasOf, edgesOf}
 use Rattle.admit.specs.Values.{number}
-use Rattle.entries.specs.Stages.{RegionCall}
+use Rattle.entries.specs.Stages.{RegionCall, BoundariesCall, BoundariesWithCall}
+use Rattle.entries.specs.declared.stages.Answer.{Answer}
 use Rattle.entries.specs.declared.stages.Spanned.{Spanned}
 use Rattle.chain.specs.Chain.{Take, Lists, Left, chainOf}
+use Rattle.take.specs.File.{settingsIn}
 use Rattle.report.specs.Shown.{printed}
 
--- a row: a take file and the whole output; a take, the lent lists, and all that the chain answers and leaves; a pitch track as given and as
--- repaired; a pitch track as given, an estimate for each frame, and the track with what is recovered; samples, a centre, lags and their
--- periodicity; dB, pitches and sonority with a nucleus, and the edges and extra candidates there; a dB track and the answer about its region.
--- Pitches and estimates are in whole Hz, 0 for none
+-- a row: a take file and the settings in it; a take file and the whole output; a take, the lent lists, and all that the chain answers and
+-- leaves; a pitch track as given and as repaired; a pitch track as given, an estimate for each frame, and the track with what is recovered;
+-- samples, a centre, lags and their periodicity; dB, pitches and sonority with a nucleus, and the edges and extra candidates there; dB, pitches
+-- and nuclei, and the boundaries of the whole take by the entry without settings and by the one with settings under the classic set; a dB
+-- track and the answer about its region. Pitches and estimates are in whole Hz, 0 for none
 pub data Row : Type 0 where
+  carries : List ℕ → Settings → Row
   prints : List ℕ → List ℕ → Row
   marks : Take → Lists → Left → Row
   repairs : List ℕ → List ℕ → Row
   recovers : List ℕ → List ℕ → List ℕ → Row
   repeats : List ℤ → ℕ → List ℕ → List Float → Row
   splits : List Float → List Float → List Float → ℕ → List ℕ → List ℕ → Row
+  parts : List Float → List Float → List ℕ → List ℕ → List ℕ → Row
   spans : List Float → Spanned → Row
 
 -- a pitch track
@@ -46,6 +53,20 @@ sameBits [] (y ∷ ys) = false
 sameBits (x ∷ xs) [] = false
 sameBits (x ∷ xs) (y ∷ ys) = eqb (toBits binary32 x) (toBits binary32 y) && sameBits xs ys
 
+-- two sets of settings have the same bits
+abbrev sameSettings : Settings → Settings → Bool
+sameSettings p q = sameBits (p .margin ∷ p .dip ∷ []) (q .margin ∷ q .dip ∷ []) && eqb (p .gap) (q .gap)
+
+-- a `voiced_p` of 0 at every frame; a lent list with just the room for boundaries, and 99 at every place; what is answered where so many are found
+abbrev unvoiced : List Float → List Float
+unvoiced db = replicate (length db) (number 0)
+
+abbrev lentFor : List Float → List ℕ
+lentFor db = replicate (length db + 1) 99
+
+abbrev answerOf : List ℕ → Answer
+answerOf found = record { refusal = 0; count = length found }
+
 -- an estimate
 abbrev estimate : ℕ → Estimate
 estimate zero = Nothing
@@ -53,6 +74,7 @@ estimate (suc n) = Hz (ofInt binary64 (pos (suc n)))
 
 -- the definitions that the contracts cite give what the row says; of the recovery, the one that takes the estimates
 abbrev pub Right : Row → Type 0
+Right (carries file p) = sameSettings (settingsIn file) p ≡ true
 Right (prints file text) = printed file ≡ text
 Right (marks take lent left) = chainOf take lent ≡ left
 Right (repairs given after) = sameBits (repaired (track given)) (track after) ≡ true
@@ -60,6 +82,9 @@ Right (recovers given found after) = recoveredFrom (track given) (map estimate f
 Right (repeats samples centre lags values) = map (nsdf (window samples centre)) lags ≡ values
 Right (splits db pitch sonority nucleus edges extras) =
     (edgesOf db pitch sonority 0 (length db) (nucleus ∷ []) defaults ≡ edges) × (framesOf (extrasOf db pitch sonority 0 (length db) (nucleus ∷ []) defaults) ≡ extras)
+Right (parts db pitch nuclei plain old) =
+    BoundariesCall db pitch (unvoiced db) 0 (length db) nuclei (lentFor db) (overlay plain (lentFor db)) (answerOf plain)
+    × BoundariesWithCall db pitch (unvoiced db) 0 (length db) nuclei classic (lentFor db) (overlay old (lentFor db)) (answerOf old)
 Right (spans db answer) = RegionCall db defaults answer
 
 -- ---- K1, byte by byte
@@ -96,7 +121,7 @@ frame db pitch voiced = db ++ pitch ++ voiced ++ threeQuarters ++ (0 ∷ [])
 abbrev times : ℕ → List ℕ → List ℕ
 times n r = flatMap (λ (s : List ℕ). s) (replicate n r)
 
--- length 287, version 1, 16 frames, the defaults; dB -20 at frames 4 to 11, 200 Hz at 5 to 10
+-- length 287, version 1, 16 frames, the classic set; dB -20 at frames 4 to 11, 200 Hz at 5 to 10
 abbrev pub k1 : List ℕ
 k1 =
     (0 ∷ 0 ∷ 1 ∷ 31 ∷ 1 ∷ 0 ∷ 16 ∷ []) ++ ten ++ two ++ (0 ∷ 0 ∷ 0 ∷ 6 ∷ [])
@@ -115,7 +140,7 @@ k1Text =
 abbrev twoRuns : ℕ → ℕ → List Float
 twoRuns a b = replicate 6 (number 0) ++ replicate 8 (number a) ++ replicate 3 (number 0) ++ replicate 9 (number b) ++ replicate 6 (number 0)
 
--- dB -20 at 4 to 27, 200 Hz and then the second pitch
+-- dB -20 at 4 to 27, 200 Hz and then the second pitch; the classic set
 abbrev pub steppedTo : ℕ → Take
 steppedTo hz =
     record {
@@ -125,7 +150,7 @@ steppedTo hz =
       sonority = replicate 32 (round binary32 false 3 4);
       vowel = replicate 32 0;
       samples = [];
-      settings = defaults;
+      settings = classic;
     }
 
 -- lists with just the room that is asked for, and 99 at every place
@@ -181,6 +206,14 @@ voice = replicate 10 (number 0) ++ replicate 20 (number 200) ++ replicate 10 (nu
 abbrev fall : List Float
 fall = replicate 21 (round binary32 false 3 4) ++ (round binary32 false 1 2) ∷ replicate 18 (round binary32 false 1 4)
 
+-- ---- the dip: 13 frames of -20 dB but frame 6, so that the level of 4 to 8 lies lower by a fifth of what this frame does; a break of pitch
+-- between runs at 0 to 4 and 8 to 12, as short and as near as two syllable runs can be
+abbrev dipped : ℕ → List Float
+dipped d = replicate 6 (neg (number 20)) ++ neg (number d) ∷ replicate 6 (neg (number 20))
+
+abbrev broken : List Float
+broken = replicate 5 (number 200) ++ replicate 3 (number 0) ++ replicate 5 (number 238)
+
 -- ---- beside a limit: 10 frames of -60 dB, then n of -20
 abbrev burst : ℕ → List Float
 burst n = replicate 10 (neg (number 60)) ++ replicate n (neg (number 20))
@@ -188,8 +221,9 @@ burst n = replicate 10 (neg (number 60)) ++ replicate n (neg (number 20))
 -- ---- the rows
 unfoldable pub known : List Row
 known =
-    -- K1
-    prints k1 k1Text
+    -- K1, which prints the same with the dip of the defaults: its bytes tell that it is the classic one
+    carries k1 classic
+    ∷ prints k1 k1Text
     -- K2, K3
     ∷ marks (steppedTo 238) lent k2
     ∷ marks (steppedTo 237) lent k3
@@ -206,6 +240,10 @@ known =
     ∷ repeats (pos 1 ∷ pos 2 ∷ pos 1 ∷ pos 2 ∷ []) 0 (1 ∷ 2 ∷ 3 ∷ 4 ∷ []) (ratio binary64 (pos 8) 10 ∷ ratio binary64 (pos 1) 1 ∷ ratio binary64 (pos 8) 10 ∷ ratio binary64 (pos 0) 1 ∷ [])
     -- K8
     ∷ splits (replicate 40 (neg (number 20))) voice fall 15 (22 ∷ []) (25 ∷ [])
+    -- where the level dips by 2 dB, two nuclei are parted at the edges of the break under the defaults, at the lowest frame under the classic
+    -- set; where it dips by 3 dB, at the lowest frame under both
+    ∷ parts (dipped 30) broken (2 ∷ 10 ∷ []) (0 ∷ 5 ∷ 8 ∷ 13 ∷ []) (0 ∷ 6 ∷ 13 ∷ [])
+    ∷ parts (dipped 35) broken (2 ∷ 10 ∷ []) (0 ∷ 6 ∷ 13 ∷ []) (0 ∷ 6 ∷ 13 ∷ [])
     -- 4 speech frames, and 5
     ∷ spans (burst 4) (record { refusal = 0; found = false; start = 0; end = 0 })
     ∷ spans (burst 5) (record { refusal = 0; found = true; start = 10; end = 15 })

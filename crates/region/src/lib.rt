@@ -7,7 +7,7 @@ ghost use lib.ListN.{length, getD, take};
 ghost use Rattle.floats.specs.Total.{finiteKey, valueOf};
 ghost use Rattle.lists.specs.Results.{overlay};
 ghost use Rattle.lists.specs.Sorted.{sorted};
-ghost use Rattle.region.specs.Defaults.{defaults};
+ghost use Rattle.region.specs.Defaults.{defaults, classic};
 ghost use Rattle.region.specs.Percentile.{tenthOf, floorOf};
 ghost use Rattle.region.specs.Speech.{thresholdOver, thresholdOf, boundsOver, speech, mark, speechMarks, marksOf, speechFrames, lastOf, regionIn, regionOf};
 
@@ -23,9 +23,20 @@ pub struct Settings {
     pub gap: u32,
 }
 
-// The settings where a call sets none: 10 dB, 2 dB, 6 frames.
+// The settings where a call sets none: 10 dB, 3 dB, 6 frames.
 pub fn default_settings() -> Settings
     ensures { λ r. ⌜ r ≡ defaults ⌝ }
+{
+    Settings {
+        margin: 10.0,
+        dip: 3.0,
+        gap: 6,
+    }
+}
+
+// The settings of old lessons: 10 dB, 2 dB, 6 frames.
+pub fn classic_settings() -> Settings
+    ensures { λ r. ⌜ r ≡ classic ⌝ }
 {
     Settings {
         margin: 10.0,

@@ -157,18 +157,6 @@ pub const PLACES: &[Place] = places! {
         }
     }
     "region" "tonekit-segment/src/region.rs" {
-        "speech_margin_db: «10.0»," {
-            "20 dB for the default margin" => "20.0";
-            "6 dB for the default margin" => "6.0";
-        }
-        "dip_db: «2.0»," {
-            "3 dB for the default dip" => "3.0";
-            "1 dB for the default dip" => "1.0";
-        }
-        "min_nucleus_gap: «6»," {
-            "10 frames for the default gap" => "10"
-                same "the boundaries, which alone take the defaults, read no gap";
-        }
         "e.db.iter().copied().filter(|d| d.is_finite()).collect()" {
             "not finite counts as -100 in the floor" => "e.db.iter().map(|&d| if d.is_finite() { d } else { -100.0 }).collect()";
             "infinities count in the floor" => "e.db.iter().copied().filter(|d| !d.is_nan()).collect()";
@@ -585,7 +573,7 @@ pub const PLACES: &[Place] = places! {
             "never close" => "peak < prev";
         }
         "«shallow_valley(s, prev, peak, p.dip_db)»\n" {
-            "the default dip" => "shallow_valley(s, prev, peak, 2.0)";
+            "the default dip" => "shallow_valley(s, prev, peak, 3.0)";
             "a valley before the peak only" => "shallow_valley(s, prev, peak - 1, p.dip_db)";
         }
         "&& «!in_separate_runs(runs, prev, peak, VOICING_RADIUS)»;" {
@@ -789,7 +777,7 @@ pub const PLACES: &[Place] = places! {
             "only close ones merge" => "!close";
             "only shallow ones merge" => "!shallow_valley(s, prev.0, current.0, p.dip_db)";
             "close and shallow" => "!(close && shallow_valley(s, prev.0, current.0, p.dip_db))";
-            "the default dip" => "!(close || shallow_valley(s, prev.0, current.0, 2.0))";
+            "the default dip" => "!(close || shallow_valley(s, prev.0, current.0, 3.0))";
         }
         "if «prev.1 && current.1» {" {
             "two nuclei merge" => "prev.1 && !prev.1";
@@ -844,7 +832,7 @@ pub const PLACES: &[Place] = places! {
             "never break edges" => "x != y && x == y";
             "break edges in a deep valley only" => "x != y && !shallow_valley(&s, a, b, p.dip_db)";
             "only between neighbouring runs" => "x + 1 == y && shallow_valley(&s, a, b, p.dip_db)";
-            "the default dip" => "x != y && shallow_valley(&s, a, b, 2.0)";
+            "the default dip" => "x != y && shallow_valley(&s, a, b, 3.0)";
         }
         "vec![runs[x].last + 1, runs[y].first]" {
             "the last frame before the break" => "vec![runs[x].last, runs[y].first]";
@@ -1242,8 +1230,16 @@ pub const PLACES: &[Place] = places! {
         "..for_boundaries(db, pitch, voiced_p, region, nuclei, &[(list.len(), «1»)])" {
             "room of n in the boundaries" => "0";
         }
-        "&f0(pitch, «voiced_p»),\n        &range(region),\n        &given_nuclei(nuclei),\n    );" {
+        "let found = found_boundaries(db, pitch, «voiced_p», DEFAULTS, region, nuclei);" {
             "voiced_p not given on" => "&[]";
+        }
+        "let found = found_boundaries(db, pitch, voiced_p, «DEFAULTS», region, nuclei);" {
+            "2 dB still for the default dip, as the Rust has it" => "CLASSIC";
+            "4 dB for the default dip" => "Settings { dip: 4.0, ..DEFAULTS }";
+            "20 dB for the default margin" => "Settings { margin: 20.0, ..DEFAULTS }";
+            "6 dB for the default margin" => "Settings { margin: 6.0, ..DEFAULTS }";
+            "10 frames for the default gap" => "Settings { gap: 10, ..DEFAULTS }"
+                same "the boundaries, which alone take the defaults, read no gap";
         }
         "hz: «(hz != 0.0).then_some(hz)»," {
             "a pitch from 50 Hz" => "(hz >= 50.0).then_some(hz)";
