@@ -41,8 +41,8 @@ extern "C" {
 #endif
 
 /* The version of this header, as a text and as a number: 10,000 times its first part, 100 times the second, and the third. */
-#define KIDDWYR_VERSION "5.0.0"
-#define KIDDWYR_VERSION_NUMBER 50000
+#define KIDDWYR_VERSION "6.0.0"
+#define KIDDWYR_VERSION_NUMBER 60000
 
 /* The longest take, in frames and in samples. */
 #define KIDDWYR_MAX_FRAMES 2048
@@ -184,10 +184,11 @@ struct kiddwyr_answer kiddwyr_boundaries(
     const struct kiddwyr_nucleus *nuclei, size_t nuclei_len,
     uint32_t *out, size_t out_room);
 
-/* Every stage on the tracks as those before it left them: repair; by the speech marks, recovery; then
- * the region, its nuclei, extras and boundaries. Where no region is found the pitches are written all
- * the same. It can write a pitch that it would itself refuse: keep the pitches as given if it is to run
- * again. Of two calls that differ in their samples alone, those of one being those of the other times
+/* Every stage on the tracks as those before it left them: recovery, by the speech marks; the repair of
+ * given and recovered pitches together; then the region, its nuclei, extras and boundaries. Where no
+ * region is found the pitches are written all the same. A given pitch is changed by the repair alone, as
+ * kiddwyr_repair would change it, whatever is recovered. It can write a pitch that it would itself refuse:
+ * keep the pitches as given if it is to run again. Of two calls that differ in their samples alone, those of one being those of the other times
  * a whole number other than 0, both return and leave the same. Refuses with 1 to 6, 9, 10. */
 struct kiddwyr_marks kiddwyr_chain(
     const float *db, size_t db_len,

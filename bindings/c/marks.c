@@ -1,12 +1,13 @@
-/* marks: reads a take file on standard input and prints the listing of its marks. docs/TAKE-FILE.md
- * says what both look like. Status 1 where the input cannot be read or the listing not be written. */
+/* marks [SOUND]: reads a take file on standard input and prints the listing of its marks. docs/TAKE-FILE.md
+ * says what both look like. SOUND is a WAV file with the samples of the take; without it there are none.
+ * Status 1 where something cannot be read or the listing not be written. */
 #include "kiddwyr.h"
 
 #include <inttypes.h>
 #include <stdio.h>
 #include <string.h>
 
-enum { HEAD = 19, RECORD = 17, MAX_FRAMES = KIDDWYR_MAX_FRAMES };
+enum { HEAD = 19, RECORD = 17, SOUND_HEAD = 44, MAX_FRAMES = KIDDWYR_MAX_FRAMES };
 
 struct take {
     struct kiddwyr_settings settings;
@@ -18,6 +19,9 @@ struct take {
 /* One byte more than the largest take shows that an input is longer. */
 static uint8_t file[HEAD + RECORD * MAX_FRAMES + 1];
 static struct take take;
+/* One sample more than a take may have shows that a sound is longer. */
+static int16_t samples[KIDDWYR_MAX_SAMPLES + 1];
+static size_t sample_count;
 
 static uint32_t u32_at(const uint8_t *p)
 {
@@ -50,6 +54,27 @@ static size_t read_all(FILE *in)
             size += more;
     }
     return size;
+}
+
+/* The samples of a WAV file with the usual head: one channel, 16,000 samples a second, 16 bits each.
+ * Returns whether it is one. */
+static int read_sound(const char *name)
+{
+    static const uint8_t form[] = {16, 0, 0, 0, 1, 0, 1, 0, 0x80, 0x3e, 0, 0, 0, 0x7d, 0, 0, 2, 0, 16, 0,
+        'd', 'a', 't', 'a'};
+    uint8_t head[SOUND_HEAD], pair[2];
+    FILE *in = fopen(name, "rb");
+    if (in == NULL)
+        return 0;
+    int good = fread(head, 1, sizeof head, in) == sizeof head && memcmp(head, "RIFF", 4) == 0 &&
+        memcmp(head + 8, "WAVEfmt ", 8) == 0 && memcmp(head + 16, form, sizeof form) == 0;
+    while (good && sample_count <= KIDDWYR_MAX_SAMPLES && fread(pair, 1, 2, in) == 2) {
+        int value = pair[0] | pair[1] << 8;
+        samples[sample_count++] = (int16_t)(value < 32768 ? value : value - 65536);
+    }
+    good = good && !ferror(in);
+    fclose(in);
+    return good;
 }
 
 /* The take of a file of so many bytes; returns the refusal. */
@@ -99,8 +124,8 @@ static uint32_t list_marks(void)
     size_t n = take.frames;
     memcpy(pitch, take.pitch, sizeof pitch);
     struct kiddwyr_marks found = kiddwyr_chain(
-        take.db, n, pitch, n, take.voiced, n, take.sonority, n, take.vowel, n, NULL, 0,
-        take.settings, nuclei, MAX_FRAMES, extras, MAX_FRAMES, edges, MAX_FRAMES,
+        take.db, n, pitch, n, take.voiced, n, take.sonority, n, take.vowel, n, samples,
+        sample_count, take.settings, nuclei, MAX_FRAMES, extras, MAX_FRAMES, edges, MAX_FRAMES,
         boundaries, MAX_FRAMES + 1);
     if (found.refusal != KIDDWYR_ADMITTED)
         return found.refusal;
@@ -119,8 +144,12 @@ static uint32_t list_marks(void)
     return KIDDWYR_ADMITTED;
 }
 
-int main(void)
+int main(int argc, char **argv)
 {
+    if (argc > 1 && !read_sound(argv[1])) {
+        fprintf(stderr, "marks: %s is no WAV file of 16-bit samples, 16,000 a second, in one channel\n", argv[1]);
+        return 1;
+    }
     size_t size = read_all(stdin);
     if (ferror(stdin)) {
         perror("marks: the input cannot be read");

@@ -334,9 +334,9 @@ fn sorts(stage: &str) -> Vec<&'static str> {
 }
 
 fn chain(t: &Prepared, track: &mut F0Track) {
-    tonekit_f0::repair_octaves(track);
     let speech = tonekit_segment::speech_frames(&t.energy, &t.params);
     tonekit_f0::recover_pitch(track, &t.pcm, &speech, &t.masks.1);
+    tonekit_f0::repair_octaves(track);
     let Some(range) = tonekit_segment::speech_region(&t.energy, &t.params) else {
         return;
     };

@@ -7,7 +7,7 @@ use crate::entry::{self, Settings, CLASSIC, DEFAULTS, MAX_FRAMES, MAX_SAMPLES};
 use crate::generate::{dip_beside, length, loudness, pitches, setting};
 use crate::limits;
 use crate::random::Random;
-use crate::speech::{few_samples, phrases, sound, spoken, steps, voice};
+use crate::speech::{few_samples, leaps, phrases, sound, spoken, steps, voice};
 use crate::stages::{write, write_i16, WINDOW};
 use crate::take::Take;
 use tonekit_segment::probe;
@@ -125,8 +125,21 @@ pub fn fixed(kind: u8) -> Vec<Vec<u8>> {
             write(kind, &call)
         })
     });
+    // Stretches recovered beside each other, an octave apart: the recovery leaves them so.
+    let octaves = match kind {
+        35 | 48 => &cases::OCTAVES[..],
+        _ => &[],
+    };
+    let octaves = octaves.iter().map(|&(shape, _)| {
+        let (take, sound) = cases::octaves(shape);
+        let mut call = Call::of(&take, (0, 0), &[]);
+        call.vowel = take.vowel;
+        call.samples = sound.len();
+        call.stored = sound;
+        write(kind, &call)
+    });
     let answered = calls.iter().chain(&one_bit).map(|call| write(kind, call));
-    let answered = answered.chain(dipped);
+    let answered = answered.chain(dipped).chain(octaves);
     let answered = answered.chain(limits::inputs(kind));
     answered.chain(refused(kind)).collect()
 }
@@ -184,28 +197,35 @@ pub fn input(kind: u8, r: &mut Random, n: Option<usize>) -> Vec<u8> {
         return w.each(samples, write_i16).bytes;
     }
     let n = n.unwrap_or_else(|| frames(r));
-    let narrow = matches!(kind, 32 | 48 | 56);
-    let mut call = call(
-        r,
-        n,
-        if narrow {
-            entry::REPAIRABLE
-        } else {
-            entry::PITCH
-        },
-    );
+    let call = drawn(kind, r, n);
     if kind == 56 {
         // A file's tracks are equally long and hold no samples.
         let file = file(r, &call);
         return damaged(r, file);
     }
+    write(kind, &call)
+}
+
+/// The call of a random input of `n` frames, with what it is refused for, if anything.
+fn drawn(kind: u8, r: &mut Random, n: usize) -> Call {
+    let range = match kind {
+        32 | 48 | 56 => entry::REPAIRABLE,
+        _ => entry::PITCH,
+    };
+    let mut call = call(r, n, range);
     if kind == 43 && r.one_in(2) {
         stretch(r, &mut call);
     }
-    for _ in 0..r.pick(&[0, 0, 0, 0, 0, 0, 1, 2]) {
-        fault(r, &mut call);
+    if kind == 48 && r.one_in(3) {
+        leap(r, &mut call);
     }
-    write(kind, &call)
+    // A file is damaged as a whole instead.
+    if kind != 56 {
+        for _ in 0..r.pick(&[0, 0, 0, 0, 0, 0, 1, 2]) {
+            fault(r, &mut call);
+        }
+    }
+    call
 }
 
 /// A call of the chain with silent samples, with sound, and with the sound times a whole number
@@ -213,12 +233,15 @@ pub fn input(kind: u8, r: &mut Random, n: Option<usize>) -> Vec<u8> {
 pub fn scaled(r: &mut Random) -> [Vec<u8>; 3] {
     let n = frames(r);
     let mut call = call(r, n, entry::REPAIRABLE);
-    if r.one_in(8) {
-        fault(r, &mut call);
-    }
     // Most takes lose their pitches, so that there is something to recover.
     if !r.one_in(4) {
         call.pitch.fill(0.0);
+    }
+    if r.one_in(3) {
+        leap(r, &mut call);
+    }
+    if r.one_in(8) {
+        fault(r, &mut call);
     }
     let most = call.stored.iter().map(|v| v.unsigned_abs()).max();
     let largest = i32::from(i16::MAX) / i32::from(most.unwrap_or(1).max(1));
@@ -381,6 +404,28 @@ fn stretch(r: &mut Random, c: &mut Call) {
             *d = (*d * (wanted / depth)).clamp(-1000.0, 1000.0);
         }
     }
+}
+
+/// Takes the pitches of a part of the take away and lets the sound leap by octaves, so that stretches are
+/// recovered beside each other, an octave apart, with a frame or two between them at times.
+fn leap(r: &mut Random, c: &mut Call) {
+    let n = c.db.len();
+    let (x, y) = match r.below(3) {
+        0 => (r.between(0, n), r.between(0, n)),
+        _ => (0, n),
+    };
+    c.pitch[x.min(y)..x.max(y)].fill(0.0);
+    let few = r.pick(&[0, 0, 0, 12]);
+    c.vowel = (0..n)
+        .map(|_| u8::from(few == 0 || !r.one_in(few)))
+        .collect();
+    if r.one_in(2) {
+        // Most of it speech.
+        c.settings.margin = 0.0;
+    }
+    let size = 160 * r.between(6, 30);
+    c.stored = leaps(r, size);
+    c.samples = (160 * n).min(MAX_SAMPLES);
 }
 
 /// The frames where voicing starts or ends.
@@ -638,6 +683,34 @@ mod tests {
         };
         let found = (0..2000).filter(full).count();
         assert!(found >= 4, "{found}");
+    }
+
+    /// In enough of the calls that are drawn for the chain, its order of before would leave other pitches.
+    #[test]
+    fn both_orders_are_told_apart() {
+        let apart = |index: &u64| {
+            let mut r = Random::of(1, 48, *index);
+            let n = frames(&mut r);
+            if n > 200 {
+                // A long one takes long.
+                return false;
+            }
+            let c = drawn(48, &mut r, n);
+            let mut marks = vec![0; n];
+            let speech = match entry::speech_marks(&c.db, c.settings, &mut marks) {
+                Ok(count) => &marks[..count],
+                Err(_) => return false,
+            };
+            let sound: Vec<i16> = c.stored.iter().copied().cycle().take(c.samples).collect();
+            let recover = |pitch: &mut Vec<f32>| entry::recover(pitch, &sound, speech, &c.vowel);
+            let repair = |pitch: &mut Vec<f32>| entry::repair(pitch);
+            let (mut now, mut before) = (c.pitch.clone(), c.pitch.clone());
+            let admitted = recover(&mut now).and_then(|()| repair(&mut now));
+            let admitted = admitted.and_then(|()| repair(&mut before));
+            admitted.and_then(|()| recover(&mut before)).is_ok() && now != before
+        };
+        let found = (0..500).filter(apart).count();
+        assert!(found >= 25, "{found}");
     }
 
     /// By itself, among the calls on the limits; some of these are admitted.

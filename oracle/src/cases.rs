@@ -1,7 +1,8 @@
 //! The specification's own cases, and the smallest inputs of places where a natural reading goes
 //! wrong, run on the reference. Each says what comes out and what should.
 
-use crate::entry::{self, Answer, Given, Mark, Settings, BLANK, CLASSIC, DEFAULTS, PITCH};
+use crate::entry::{self, Answer, Given, Lists, Mark, Settings, BLANK, CLASSIC, DEFAULTS, PITCH};
+use crate::speech::leaping;
 use crate::take::{listing, Take};
 use std::fmt::Debug;
 use tonekit_f0::probe as f0;
@@ -282,6 +283,94 @@ pub fn dipped(db: f32) -> Take {
 /// What the frame of [`dipped`] is for levels that dip by nearly 2 dB, by 2, by 2.5, by nearly 3 and by 3.
 pub const DIPS: [f32; 5] = [-29.99999, -30.0, -32.5, -34.99999, -35.0];
 
+/// A loud take that brings no pitch but the last `given` frames of its loud part, 3 frames after the rest,
+/// and a sound of which the first `low` frames have about 125 Hz and, `gap` frames that are no vowel
+/// later, `high` frames have 250.
+pub fn octaves([low, gap, high, given]: [usize; 4]) -> (Take, Vec<i16>) {
+    let found = low + gap + high;
+    let loud = found + if given > 0 { 3 + given } else { 0 };
+    let mut take = take(
+        DEFAULTS,
+        loud + 4,
+        |i| loudness(i < loud),
+        |i| either((loud - given..loud).contains(&i), 125.0, 0.0),
+        |_| 0.75,
+    );
+    for (i, mark) in take.vowel.iter_mut().enumerate() {
+        *mark = u8::from(i < low || (low + gap..found).contains(&i));
+    }
+    let triangle: Vec<i16> = (0..64).map(|j| 100 * (16 - (j - 32i16).abs())).collect();
+    // A frame goes by the lower octave until its window, which begins 256 samples before it, has hardly
+    // anything of that left.
+    let first = 160 * (low + gap) - 310;
+    let sound = leaping(&triangle, 1000, [first, 160 * found + 256 - first]);
+    (take, sound)
+}
+
+/// Frames that are recovered at the lower octave, frames between, frames at the higher one, and given
+/// pitches after that; and the octaves that the chain leaves, `l` or `h` a frame, `-` for no pitch. The
+/// repair is for single frames: it puts a tail or a head of 3 frames right, and no longer one.
+pub const OCTAVES: [([usize; 4], &str); 13] = [
+    ([4, 0, 3, 0], "lllllll----"),
+    ([3, 0, 4, 0], "hhhhhhh----"),
+    ([3, 0, 3, 0], "hhhlll----"),
+    ([4, 0, 4, 0], "llhhllhh----"),
+    ([5, 0, 5, 0], "llllhlhhhh----"),
+    ([4, 0, 5, 0], "llhhhhhhh----"),
+    ([6, 0, 4, 0], "llllllllhh----"),
+    ([6, 0, 6, 0], "llllllhhhhhh----"),
+    ([20, 0, 4, 0], "llllllllllllllllllllllhh----"),
+    ([4, 1, 3, 0], "llll-lll----"),
+    ([4, 2, 3, 0], "llll--lll----"),
+    ([4, 3, 3, 0], "llll---hhh----"),
+    ([4, 0, 3, 5], "lllllll---lllll----"),
+];
+
+/// The octaves of a pitch track, as [`OCTAVES`] has them.
+fn heights(pitch: &[f32]) -> String {
+    let height = |&hz: &f32| match hz {
+        0.0 => '-',
+        _ if hz < 180.0 => 'l',
+        _ => 'h',
+    };
+    pitch.iter().map(height).collect()
+}
+
+/// The octaves that the chain leaves of [`octaves`], and those that the repair and then the recovery
+/// leave, in the order that the chain had before version 6.
+fn in_both_orders(shape: [usize; 4]) -> [String; 2] {
+    let (take, sound) = octaves(shape);
+    let n = take.db.len();
+    let (mut now, mut before) = (take.pitch.clone(), take.pitch.clone());
+    let lists = Lists {
+        nuclei: &mut vec![BLANK; n],
+        extras: &mut vec![BLANK; n],
+        edges: &mut vec![0; n],
+        boundaries: &mut vec![0; n + 1],
+    };
+    let mut speech = vec![0; n];
+    entry::chain(take.frames(), &mut now, take.settings, &sound, lists)
+        .and_then(|_| entry::speech_marks(&take.db, take.settings, &mut speech))
+        .and_then(|_| entry::repair(&mut before))
+        .and_then(|_| entry::recover(&mut before, &sound, &speech, &take.vowel))
+        .expect("the take is admitted, and what each stage leaves");
+    [heights(&now), heights(&before)]
+}
+
+/// What [`in_both_orders`] should give: in the old order the octaves as they are recovered.
+fn octaves_known((shape, now): ([usize; 4], &str)) -> [String; 2] {
+    let [low, gap, high, given] = shape;
+    let parts = [
+        ("l", low),
+        ("-", gap),
+        ("h", high),
+        ("-", 3 * given.min(1)),
+        ("l", given),
+    ];
+    let before: String = parts.map(|(height, frames)| height.repeat(frames)).concat();
+    [now.to_string(), before + "----"]
+}
+
 /// `speech` loud frames among 20.
 fn speech_frames(speech: usize) -> Vec<f32> {
     (0..20)
@@ -525,6 +614,14 @@ pub fn all() -> Vec<Case> {
             "repair",
             "the chain writes 38 Hz",
             shown(&below_the_chain(), "pitch 3 42180000\nregion none\n"),
+        ),
+        case(
+            "octave",
+            "stretches that adjoin, of a frame or two between, of a gap, and beside a given run",
+            same(
+                OCTAVES.map(|(shape, _)| in_both_orders(shape)),
+                OCTAVES.map(octaves_known),
+            ),
         ),
         case("repair", "and refuses it", shown(&again, "refused 5\n")),
         case(

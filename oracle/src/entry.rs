@@ -364,7 +364,8 @@ pub struct Found {
     pub boundaries: usize,
 }
 
-/// Every stage in turn, each on the tracks so far. The speech marks are made on the way.
+/// Every stage in turn, each on the tracks so far: recovery on the pitches as given, by speech marks that
+/// are made here, then the repair of the joined track, then the marks.
 pub fn chain(
     frames: Frames,
     pitch: &mut [f32],
@@ -388,8 +389,8 @@ pub fn chain(
         ],
         ..Given::default()
     })?;
-    repaired(pitch);
     recovered(pitch, samples, &marked(frames.db, settings), frames.vowel);
+    repaired(pitch);
     let Some(region) = found_region(frames.db, settings) else {
         return Ok(Found::default());
     };

@@ -5,13 +5,14 @@ use judge::kinds::Kind;
 #[cfg(feature = "mistakes")]
 use judge::mistakes;
 use judge::{bench, cases, fuzz, pipe, rattle, replay, take};
+use std::fs;
 use std::io::{self, Read, Write};
 use std::process::ExitCode;
 
 const USAGE: &str = "\
 judge COMMAND
   cases                             the specification's cases on the reference
-  marks                             take file on standard input, listing on standard output
+  marks [SOUND]                     take file on standard input, listing on standard output; SOUND is a WAV file
   replay [SEED [KINDS]]             the replay list to standard output (SEED 1, KINDS 1-56)
   fuzz KINDS COUNT SEED [FIRST]     fixed inputs and COUNT random ones of each kind, both sides,
                                     from place FIRST (0) of the random sequence on
@@ -37,7 +38,10 @@ const SEED: u64 = 1;
 const SMALL: &str = "1-56";
 /// Where the gate keeps the list.
 #[cfg(feature = "mistakes")]
-const LIST: &str = concat!(env!("CARGO_MANIFEST_DIR"), "/../crates/compare_replay/stdin");
+const LIST: &str = concat!(
+    env!("CARGO_MANIFEST_DIR"),
+    "/../crates/compare_replay/stdin"
+);
 
 fn main() -> ExitCode {
     let words: Vec<String> = std::env::args().skip(1).collect();
@@ -60,7 +64,8 @@ fn main() -> ExitCode {
 fn run(words: &[&str]) -> Option<io::Result<bool>> {
     Some(match words {
         ["cases"] => Ok(run_cases()),
-        ["marks"] => marks(),
+        ["marks"] => marks(&[]),
+        ["marks", sound] => fs::read(sound).and_then(|wav| marks(&take::samples(&wav))),
         ["replay"] => run_replay(SEED, SMALL)?,
         ["replay", seed] => run_replay(seed.parse().ok()?, SMALL)?,
         ["replay", seed, kinds] => run_replay(seed.parse().ok()?, kinds)?,
@@ -92,10 +97,10 @@ fn out(bytes: &[u8]) -> io::Result<bool> {
     io::stdout().write_all(bytes).map(|()| true)
 }
 
-fn marks() -> io::Result<bool> {
+fn marks(samples: &[i16]) -> io::Result<bool> {
     let mut file = Vec::new();
     io::stdin().read_to_end(&mut file)?;
-    out(take::listing(&file).as_bytes())
+    out(take::listing_with(&file, samples).as_bytes())
 }
 
 fn run_cases() -> bool {

@@ -244,6 +244,36 @@ pub fn voice(r: &mut Random, size: usize) -> Vec<i16> {
     out
 }
 
+/// A tone that leaps an octave up and back, each time after some frames: `half` samples over and over,
+/// higher and lower by turns by `odd`, so that they repeat after twice `half`; without that, after `half`.
+/// The parts last as many samples as `parts` says, the first with the turns.
+pub fn leaping(half: &[i16], odd: i16, parts: impl IntoIterator<Item = usize>) -> Vec<i16> {
+    let mut out: Vec<i16> = Vec::new();
+    for (k, size) in parts.into_iter().enumerate() {
+        let part = out.len()..out.len() + size;
+        out.extend(part.map(|j| {
+            let turn = if j / half.len() % 2 == 0 { odd } else { -odd };
+            half[j % half.len()] + if k % 2 == 0 { turn } else { 0 }
+        }));
+    }
+    out
+}
+
+/// Such a tone of about `size` samples, with parts of about the frames that the repair of stretches beside
+/// each other hangs on.
+pub fn leaps(r: &mut Random, size: usize) -> Vec<i16> {
+    let loud = r.pick(&[4, 300, 3000, 16_000]);
+    let half: Vec<i16> = (0..r.between(33, 112))
+        .map(|_| (r.below(2 * loud + 1) as i64 - loud as i64) as i16)
+        .collect();
+    let odd = r.pick(&[loud / 2, 3 * loud / 4, loud - 1]) as i16;
+    let mut parts = Vec::new();
+    while parts.iter().sum::<usize>() < size {
+        parts.push(80 * r.pick(&[2, 5, 6, 7, 8, 9, 10, 12, 16, 40]));
+    }
+    leaping(&half, odd, parts)
+}
+
 /// Few samples of few values, which repeat by simple fractions: uneven tones, or pulses.
 pub fn few_samples(r: &mut Random) -> Vec<i16> {
     let size = r.between(32, 120);

@@ -95,16 +95,28 @@ impl Take {
     }
 }
 
+/// The samples of a WAV file of the examples: 16 bits each, behind a head of 44 bytes.
+pub fn samples(wav: &[u8]) -> Vec<i16> {
+    let data = wav.get(44..).unwrap_or_default();
+    let sample = |pair: &[u8]| i16::from_le_bytes([pair[0], pair[1]]);
+    data.chunks_exact(2).map(sample).collect()
+}
+
 /// What the program `marks` prints for a file; each line ends in a newline.
 pub fn listing(file: &[u8]) -> String {
-    match Take::read(file).and_then(|take| marks(&take)) {
+    listing_with(file, &[])
+}
+
+/// The same of a take with its sound.
+pub fn listing_with(file: &[u8], samples: &[i16]) -> String {
+    match Take::read(file).and_then(|take| marks(&take, samples)) {
         Ok(lines) => lines,
         Err(number) => format!("refused {number}\n"),
     }
 }
 
-/// The chain without samples, as lines.
-fn marks(take: &Take) -> Result<String, u8> {
+/// The chain, as lines.
+fn marks(take: &Take, samples: &[i16]) -> Result<String, u8> {
     let n = take.db.len();
     let mut pitch = take.pitch.clone();
     let (mut nuclei, mut extras) = (vec![BLANK; n], vec![BLANK; n]);
@@ -115,7 +127,7 @@ fn marks(take: &Take) -> Result<String, u8> {
         edges: &mut edges,
         boundaries: &mut boundaries,
     };
-    let found = entry::chain(take.frames(), &mut pitch, take.settings, &[], lists)?;
+    let found = entry::chain(take.frames(), &mut pitch, take.settings, samples, lists)?;
 
     let mut out = String::new();
     for (i, (new, old)) in pitch.iter().zip(&take.pitch).enumerate() {

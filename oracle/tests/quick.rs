@@ -6,7 +6,7 @@ use judge::entry::{self, Given, Lists, Mark, Settings, CLASSIC, DEFAULTS, PITCH,
 use judge::fuzz::{self, Outcome};
 use judge::kinds::{Kind, KINDS, UNTOUCHED};
 use judge::random::Random;
-use judge::take::{listing, Take};
+use judge::take::{listing, listing_with, samples, Take};
 use judge::{generate, replay, second, stages};
 
 fn kind(word: &str) -> &'static Kind {
@@ -23,6 +23,40 @@ fn every_case_comes_out() {
 #[test]
 fn k1_is_listed_as_printed() {
     assert_eq!(listing(&cases::k1().write()), cases::K1_LISTING);
+}
+
+/// The example with a sound: what the chain lists, and what it listed when it repaired before it recovered,
+/// which differs in three pitches.
+#[test]
+fn the_octave_is_listed_in_both_orders() {
+    let read = |end: &str| {
+        let name = concat!(env!("CARGO_MANIFEST_DIR"), "/../examples/octave");
+        std::fs::read(format!("{name}.{end}")).expect("a file of the example")
+    };
+    let text = |end: &str| String::from_utf8(read(end)).expect("a listing");
+    let (file, sound) = (read("take"), samples(&read("wav")));
+    assert_eq!(listing_with(&file, &sound), text("listing"));
+
+    let take = Take::read(&file).expect("a take");
+    let mut speech = vec![0; take.db.len()];
+    let mut pitch = take.pitch.clone();
+    entry::speech_marks(&take.db, take.settings, &mut speech)
+        .and_then(|_| entry::repair(&mut pitch))
+        .and_then(|()| entry::recover(&mut pitch, &sound, &speech, &take.vowel))
+        .expect("an admitted take");
+    let (now, before) = (text("listing"), text("before"));
+    for (line, old) in now.lines().zip(before.lines()) {
+        match line.split(' ').collect::<Vec<_>>()[..] {
+            ["pitch", frame, _] => {
+                let bits = pitch[frame.parse::<usize>().expect("a frame")].to_bits();
+                assert_eq!(old, format!("pitch {frame} {bits:08x}"));
+            }
+            _ => assert_eq!(old, line),
+        }
+    }
+    assert_eq!(before.lines().count(), now.lines().count());
+    let other = now.lines().zip(before.lines()).filter(|(a, b)| a != b);
+    assert_eq!(other.count(), 3);
 }
 
 /// `exact` against whole numbers of any length, mostly beside the limits.

@@ -1,7 +1,10 @@
-//! Reads a take file on standard input and prints the listing of its marks; docs/TAKE-FILE.md says
-//! what both look like. Status 1 where the input cannot be read or the listing not be written.
+//! marks [SOUND]: reads a take file on standard input and prints the listing of its marks;
+//! docs/TAKE-FILE.md says what both look like. SOUND is a WAV file with the samples of the take; without
+//! it there are none. Status 1 where something cannot be read or the listing not be written.
 
 use kiddwyr::{chain, Lists, Nucleus, Refusal, Settings, Tracks, MAX_FRAMES};
+use std::env;
+use std::fs;
 use std::io::{self, Read, Write};
 use std::process::ExitCode;
 
@@ -29,9 +32,16 @@ fn main() -> ExitCode {
 }
 
 fn run() -> io::Result<()> {
+    let samples = match env::args().nth(1) {
+        Some(name) => sound(&fs::read(&name)?).ok_or_else(|| {
+            let wanted = "a WAV file of 16-bit samples, 16,000 a second, in one channel";
+            io::Error::other(format!("{name} is not {wanted}"))
+        })?,
+        None => Vec::new(),
+    };
     let mut file = Vec::new();
     io::stdin().read_to_end(&mut file)?;
-    let listing = take(&file).and_then(|take| list(&take));
+    let listing = take(&file).and_then(|take| list(&take, &samples));
     let listing = listing.unwrap_or_else(|Refusal(number)| format!("refused {number}\n"));
     io::stdout().write_all(listing.as_bytes())
 }
@@ -42,6 +52,16 @@ fn u32_at(bytes: &[u8], at: usize) -> u32 {
 
 fn f32_at(bytes: &[u8], at: usize) -> f32 {
     f32::from_bits(u32_at(bytes, at))
+}
+
+/// The samples of a WAV file with the usual head; none where it has another form.
+fn sound(wav: &[u8]) -> Option<Vec<i16>> {
+    // PCM, one channel, 16,000 samples and 32,000 bytes a second, 2 bytes at a time, 16 bits.
+    let form = *b"\x10\0\0\0\x01\0\x01\0\x80\x3e\0\0\0\x7d\0\0\x02\0\x10\0data";
+    let (head, data) = wav.split_at_checked(44)?;
+    let good = head.starts_with(b"RIFF") && head[8..16] == *b"WAVEfmt " && head[16..40] == form;
+    let sample = |pair: &[u8]| i16::from_le_bytes([pair[0], pair[1]]);
+    good.then(|| data.chunks_exact(2).map(sample).collect())
 }
 
 /// The take of a file.
@@ -77,7 +97,7 @@ fn take(file: &[u8]) -> Result<Take, Refusal> {
 }
 
 /// The lines of a take's marks.
-fn list(take: &Take) -> Result<String, Refusal> {
+fn list(take: &Take, samples: &[i16]) -> Result<String, Refusal> {
     let n = take.db.len();
     let mut pitch = take.pitch.clone();
     let mut nuclei = vec![Nucleus::default(); n];
@@ -88,7 +108,7 @@ fn list(take: &Take) -> Result<String, Refusal> {
         voiced_p: &take.voiced_p,
         sonority: &take.sonority,
         vowel: &take.vowel,
-        samples: &[],
+        samples,
     };
     let lists = Lists {
         nuclei: &mut nuclei,

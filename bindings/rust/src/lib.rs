@@ -388,9 +388,10 @@ pub fn boundaries(
     answer.result()
 }
 
-/// Every stage on the tracks as those before it left them: repair; by the speech marks, recovery;
-/// then the region, its nuclei, extras and boundaries. Without a region the pitches are written all
-/// the same.
+/// Every stage on the tracks as those before it left them: recovery, by the speech marks; the repair
+/// of given and recovered pitches together; then the region, its nuclei, extras and boundaries.
+/// Without a region the pitches are written all the same. A given pitch is changed by the repair
+/// alone, as [`repair`] would change it, whatever is recovered.
 ///
 /// It can write a pitch that it would itself refuse: keep the pitches as given if it is to run
 /// again. Of two calls that differ in their samples alone, those of one being those of the other

@@ -1,5 +1,6 @@
 -- Demand 3 of the whole chain: a take times a whole number other than 0 is answered alike, and the boundaries of a found region keep their promises; beside it
--- the order of what is returned, and that a refused call leaves all that was lent. Shown of readings first, which the chain over any lists returns. Assumes nothing.
+-- what becomes of given pitches, the order of what is returned, and that a refused call leaves all that was lent. Shown of readings first, which the chain over
+-- any lists returns. Assumes nothing.
 use Prim.Native.Nat.{ℕ, zero, suc, _+_, _<_}
 use native.Mathlib.Omega.{arith}
 use mathlib.Core.Path.{_≡_, refl, sym, ap, subst, _∙_}
@@ -10,11 +11,12 @@ use lib.ListN.{length, length-map}
 use lib.Ieee.{Float}
 use Rattle.lists.specs.Results.{overlay}
 use Rattle.lists.proofs.Fill.{overlay-take}
+use Rattle.lists.proofs.Keys.{Held}
 use Rattle.region.specs.Speech.{thresholdOf, marksOf, regionOf}
 use Rattle.region.specs.declared.Region.{Region}
 use Rattle.region.specs.declared.Region.the-variants.{Nowhere, Span}
 use Rattle.region.proofs.Spans.{region-size, region-within}
-use Rattle.repair.specs.Repair.{repaired}
+use Rattle.repair.specs.Repair.{Pitches}
 use Rattle.recover.proofs.Scaled.{recovered-scaled}
 use Rattle.nuclei.specs.Nuclei.{nucleiOf, framesOf}
 use Rattle.nuclei.proofs.Promises.{take-rises, take-few}
@@ -24,14 +26,15 @@ use Rattle.boundaries.specs.Boundaries.{boundariesOf}
 use Rattle.boundaries.proofs.Promise.{promised, with-pauses, reaches-apart, reaches-few}
 use Rattle.chain.specs.declared.Marks.{Marks}
 use Rattle.chain.specs.Chain.{Take, Reading, Lists, LeftOf, Left, pitchesOf, readingIn, readingOf, unmarked, answered, nothing, counted, written, asLent, readingBy, answerBy, refusalFor, refusalOf, leftBy, leaves, chainOf}
-use Rattle.chain.specs.Promises.{scaled, Returned, returnedIn, returned, BoundariesKept, Ordered, Demanded}
-use Rattle.chain.proofs.Marking.{framed, nothing-written}
+use Rattle.chain.specs.Promises.{scaled, Returned, returnedIn, returned, BoundariesKept, PitchesKept, Ordered, Demanded}
+use Rattle.chain.proofs.Marking.{framed, nothing-written, reading-pitch}
+use Rattle.chain.proofs.Pitches.{pitches-admitted, pitches-kept}
 
 -- ---- a take times a whole number
 module _ (k : ℤ) (nonzero : k ≡ pos 0 → ⊥) (t : Take) where
   pub reading-scaled : readingOf (scaled k t) ≡ readingOf t
   unfolding readingOf pitchesOf
-  reading-scaled = rw (recovered-scaled k nonzero (repaired (t .pitch)) (t .samples) (marksOf (t .db) (t .settings)) (t .vowel))
+  reading-scaled = rw (recovered-scaled k nonzero (t .pitch) (t .samples) (marksOf (t .db) (t .settings)) (t .vowel))
 
 -- what a caller reads off a reading and the answer that it is given by
 abbrev readOff : Marks → Reading → Returned
@@ -100,6 +103,12 @@ module _ (t : Take) where
   ordered-by zero = in-order t (pitchesOf t) (regionOf (t .db) (t .settings)) refl
   ordered-by (suc k) = no-marks t (t .pitch) (suc k)
 
+  -- the pitches, where the number is 0
+  pub kept-pitches-by : (number : ℕ) → number ≡ 0 → (Held (t .pitch) → Pitches 40 2000 (t .pitch)) → PitchesKept t (returnedBy number .pitch)
+  unfolding readingBy readingOf
+  kept-pitches-by zero e a = subst (PitchesKept t) (sym (reading-pitch (t .db) (pitchesOf t) (t .voiced) (t .sonority) (t .settings) (regionOf (t .db) (t .settings)))) (pitches-kept t a)
+  kept-pitches-by (suc k) e a = absurd (omega (arith, e))
+
   -- the number that is answered
   pub number-by : (number : ℕ) → answerBy t number .refusal ≡ number
   unfolding answerBy
@@ -138,7 +147,8 @@ module _ {L : Type 0} (written : Reading → L → L) (l : L) where
   -- where the lists hold the frames of nuclei and of extras, the edges and the boundaries: what is written there is read back
   module _ (nuclei extras edges bounds : L → List ℕ) (blank : (pitch : List Float) → written (unmarked pitch) l ≡ l) (refusal : Take → ℕ) (number-alike : (k : ℤ) (t : Take) → refusal (scaled k t) ≡ refusal t)
       (laid : (m : Reading) → (nuclei (written m l) ≡ overlay (framesOf (m .nuclei)) (nuclei l)) × (extras (written m l) ≡ overlay (framesOf (m .extras)) (extras l))
-      × (edges (written m l) ≡ overlay (m .edges) (edges l)) × (bounds (written m l) ≡ overlay (m .boundaries) (bounds l))) where
+      × (edges (written m l) ≡ overlay (m .edges) (edges l)) × (bounds (written m l) ≡ overlay (m .boundaries) (bounds l)))
+      (admits : (t : Take) → Held (t .pitch) → refusal t ≡ 0 → Pitches 40 2000 (t .pitch)) where
     abbrev read : LeftOf L → Returned
     read = returnedIn nuclei extras edges bounds
 
@@ -167,6 +177,7 @@ module _ {L : Type 0} (written : Reading → L → L) (l : L) where
         record {
           alike = λ k nonzero other p. p ∙ left-scaled k nonzero t (refusal (scaled k t)) ∙ ap (leaves written t l) (number-alike k t) ∙ sym e;
           kept = λ f. subst (BoundariesKept t) (sym r) (kept-by t n (sym (ap (λ (x : Returned). x .answer .found) r) ∙ f));
+          pitches = λ z. let z′ : n ≡ 0 = sym number ∙ z in subst (λ (x : Returned). PitchesKept t (x .pitch)) (sym r) (kept-pitches-by t n z′ (λ h. admits t h z′));
           ordered = subst (Ordered t) (sym r) (ordered-by t n);
           refused = λ some. e ∙ left-refused t n (λ z. some (number ∙ z)) ∙ ap (asLent t l) (sym number);
         }
@@ -178,4 +189,4 @@ refusal-scaled k t a b c d e f = rw (length-map (t .samples) (λ (z : ℤ). k *�
 -- ---- over plain lists: the theorem, of every call of the chain by what it answers and leaves
 pub chain-demanded : (l : Lists) (t : Take) (o : Left) → o ≡ chainOf t l → Demanded (λ (t : Take). chainOf t l) returned (asLent t l) t o
 unfolding chainOf
-chain-demanded l = demanded written l _ _ _ _ (λ pitch. nothing-written pitch l) (λ (t : Take). refusalOf t l) (λ k t. refusal-scaled k t _ _ _ _ _ _) (λ m. (refl, refl, refl, refl))
+chain-demanded l = demanded written l _ _ _ _ (λ pitch. nothing-written pitch l) (λ (t : Take). refusalOf t l) (λ k t. refusal-scaled k t _ _ _ _ _ _) (λ m. (refl, refl, refl, refl)) (λ t. pitches-admitted t _ _ _ _ _ _)

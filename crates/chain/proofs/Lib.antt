@@ -1,2 +1,3 @@
 pub mod Marking
+pub mod Pitches
 pub mod Demand3

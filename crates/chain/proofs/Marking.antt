@@ -4,8 +4,9 @@ use native.Mathlib.Omega.{arith}
 use mathlib.Core.Path.{_≡_, refl, sym, ap, subst, _∙_}
 use mathlib.Core.Bool.{true}
 use mathlib.Core.List.{List}
+use lib.IntN.{ℤ}
 use lib.ListN.{length, take, length-map}
-use lib.Ieee.{Float}
+use lib.Ieee.{Float, le}
 use Rattle.lists.specs.Results.{overlay, Listed}
 use Rattle.lists.specs.Sorted.{StrictlyRises}
 use Rattle.lists.proofs.Fill.{listed-take}
@@ -14,15 +15,18 @@ use Rattle.region.specs.Speech.{thresholdOf, mark, marksOf, regionOf}
 use Rattle.region.specs.declared.Settings.{Settings}
 use Rattle.region.specs.declared.Region.{Region}
 use Rattle.region.specs.declared.Region.the-variants.{Nowhere, Span}
-use Rattle.repair.specs.Repair.{repaired}
+use Rattle.nsdf.specs.Period.{periodHz}
+use Rattle.nsdf.proofs.Range.{period-range}
+use Rattle.repair.specs.Repair.{Pitches}
 use Rattle.repair.proofs.Runs.{length-repaired}
-use Rattle.recover.proofs.Kept.{length-recovered}
+use Rattle.recover.specs.Recovered.{recovered}
+use Rattle.recover.proofs.Kept.{length-recovered, admitted-recovered}
 use Rattle.nuclei.specs.Nuclei.{Nucleus, nucleiOf, framesOf, strengthsOf}
 use Rattle.nuclei.proofs.Promises.{take-rises}
 use Rattle.extra.specs.Extra.{extrasOf, edgesOf}
 use Rattle.boundaries.specs.Boundaries.{boundariesOf}
 use Rattle.chain.specs.declared.Marks.{Marks}
-use Rattle.chain.specs.Chain.{Take, Lists, Left, unmarked, readingIn, readingWith, pitchesOf, readingOf, written, nothing, refusalOf, leaves, chainOf, MarkCall, ChainCall}
+use Rattle.chain.specs.Chain.{Take, Lists, Left, unmarked, readingIn, readingWith, joinedTrack, pitchesOf, readingOf, written, nothing, refusalOf, leaves, chainOf, MarkCall, ChainCall}
 
 pub framed : (l : List Nucleus) → length (framesOf l) ≡ length l
 framed l = length-map l (λ (n : Nucleus). n .frame)
@@ -42,6 +46,11 @@ lists-same f s x t e b = cc
 -- the marks at the front of a longer list
 pub marks-lent : (db : List Float) (p : Settings) (old : List ℕ) {new : List ℕ} → new ≡ overlay (marksOf db p) old → take (length db) new ≡ marksOf db p
 marks-lent db p old e = listed-take (record { count = sym (length-map db (mark (thresholdOf db p))); entries = e })
+
+-- the joined track is one that the repair takes: what is recovered is from 60 to 600 Hz
+pub joined-pitches : (pitch : List Float) (samples : List ℤ) (speech vowel : List ℕ) → Pitches 40 2000 pitch → Pitches 40 2000 (recovered pitch samples speech vowel)
+unfolding le
+joined-pitches pitch samples speech vowel = admitted-recovered 40 2000 tt tt tt tt (periodHz samples) (period-range samples) pitch speech vowel
 
 -- no marks leave the lists as they were
 pub nothing-written : (pitch : List Float) (l : Lists) → written (unmarked pitch) l ≡ l
@@ -79,13 +88,13 @@ module _ (db pitch voiced sonority : List Float) (p : Settings) (start end : ℕ
 
 -- ---- the whole chain
 -- a reading's pitches are those that it is over
-reading-pitch : (db pitch voiced sonority : List Float) (p : Settings) (r : Region) → readingIn db pitch voiced sonority p r .pitch ≡ pitch
+pub reading-pitch : (db pitch voiced sonority : List Float) (p : Settings) (r : Region) → readingIn db pitch voiced sonority p r .pitch ≡ pitch
 reading-pitch db pitch voiced sonority p Nowhere = refl
 reading-pitch db pitch voiced sonority p (Span start end) = refl
 
 pub length-pitches : (t : Take) → length (pitchesOf t) ≡ length (t .pitch)
 unfolding pitchesOf
-length-pitches t = length-recovered _ (repaired (t .pitch)) (marksOf (t .db) (t .settings)) (t .vowel) ∙ length-repaired (t .pitch)
+length-pitches t = length-repaired (joinedTrack t) ∙ length-recovered _ (t .pitch) (marksOf (t .db) (t .settings)) (t .vowel)
 
 left-same : {r r' : Marks} {q q' : List Float} {m m' : Lists} → r ≡ r' → q ≡ q' → m ≡ m' →
     _≡_ {A = Left} (record { answer = r; pitch = q; lists = m }) (record { answer = r'; pitch = q'; lists = m' })

@@ -41,9 +41,13 @@ pub record Reading : Type 0 where
   pub edges : List ℕ
   pub boundaries : List ℕ
 
--- the pitches, repaired and then recovered where the speech marks allow it
+-- the pitches as given, joined by those that are recovered where the speech marks allow it
+abbrev pub joinedTrack : Take → List Float
+joinedTrack t = recovered (t .pitch) (t .samples) (marksOf (t .db) (t .settings)) (t .vowel)
+
+-- the pitches: the joined track, repaired
 unfoldable pub pitchesOf : Take → List Float
-pitchesOf t = recovered (repaired (t .pitch)) (t .samples) (marksOf (t .db) (t .settings)) (t .vowel)
+pitchesOf t = repaired (joinedTrack t)
 
 -- a pitch track and no marks
 abbrev pub unmarked : List Float → Reading

@@ -3,14 +3,18 @@ use Prim.Native.Nat.{ℕ, _+_, _≤_, _<_}
 use mathlib.Core.Path.{_≡_}
 use mathlib.Core.Bool.{true}
 use mathlib.Core.List.{List, map}
+use lib.Dec.{T}
 use lib.IntN.{ℤ, pos, _*ℤ_}
-use lib.ListN.{length, take}
-use lib.Ieee.{Float}
-use Rattle.lists.specs.By.{Pairs}
+use lib.ListN.{length, take, replicate}
+use lib.Ieee.{Float, binary32, fits}
+use Rattle.lists.specs.By.{Each, Pairs}
+use Rattle.lists.specs.Frames.{at}
 use Rattle.lists.specs.Sorted.{StrictlyRises}
 use Rattle.smooth.specs.Level.{levels}
 use Rattle.region.specs.Speech.{thresholdOf}
+use Rattle.runs.specs.Runs.{voiced}
 use Rattle.runs.specs.Syllables.{syllableRuns}
+use Rattle.repair.specs.Repair.{Pitches, repaired}
 use Rattle.boundaries.specs.Joints.{jointsInside}
 use Rattle.boundaries.specs.Promises.{Promised, pausesIn, mostBoundaries}
 use Rattle.chain.specs.declared.Marks.{Marks}
@@ -54,6 +58,15 @@ pub record BoundariesKept (t : Take) (r : Returned) : Type 0 where
   pub promised : Promised (r .answer .start) (r .answer .end) (r .nuclei) (jointsOf t r) (r .boundaries)
   pub few : length (r .boundaries) ≤ mostBoundaries (length (r .nuclei)) (pauses t r)
 
+-- ---- the pitches, in every call that is not refused
+pub record PitchesKept (t : Take) (left : List Float) : Type 0 where
+  -- a frame that is given a pitch has it as if nothing was recovered: only the repair of the given track changes it
+  pub given : (i : ℕ) → i < length (t .pitch) → voiced (t .pitch) i ≡ true → at left i ≡ at (repaired (t .pitch)) i
+  -- without samples, or with samples that are all alike, nothing is recovered
+  pub still : (n : ℕ) (z : ℤ) → t .samples ≡ replicate n z → left ≡ repaired (t .pitch)
+  -- each entry is no pitch, or one from 20 to 4,000 Hz, where those given are f32 values
+  pub range : Each (λ x. T (fits binary32 x)) (t .pitch) → Pitches 20 4000 left
+
 -- ---- order, in every call
 -- the region lies in the take; nuclei rise in the region, extras and their edges in the take; any two boundaries are over 2 frames apart; each list
 -- holds as many as the answer counts, and no more than a list of the take's length, or one more for boundaries
@@ -74,6 +87,8 @@ pub record Demanded {O : Type 0} (call : Take → O) (read : O → Returned) (as
   pub alike : (k : ℤ) → (k ≡ pos 0 → ⊥) → (other : O) → other ≡ call (scaled k t) → other ≡ o
   -- where a region is found, its boundaries keep their promises
   pub kept : read o .answer .found ≡ true → BoundariesKept t (read o)
+  -- where it is not refused, recovery changes no given pitch
+  pub pitches : read o .answer .refusal ≡ 0 → PitchesKept t (read o .pitch)
   -- what is returned is in order
   pub ordered : Ordered t (read o)
   -- a refused call leaves all that was lent

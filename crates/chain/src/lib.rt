@@ -1,4 +1,4 @@
-// The whole chain: repair, speech marks, recovery, region, nuclei, extra candidates, boundaries, each on the tracks so far.
+// The whole chain: speech marks, recovery, repair, region, nuclei, extra candidates, boundaries, each on the tracks so far.
 use admit::chain_refusal;
 use boundaries::boundaries_with;
 use extra::extra_candidates;
@@ -31,16 +31,17 @@ pub struct Marks {
     pub boundaries: usize,
 }
 
-// Repairs the pitches, and recovers those that the tracker left out.
+// Recovers the pitches that the tracker left out, and then repairs the joined track, so that recovered stretches are beside each
+// other when their octaves are compared.
 fn mark_pitches(db: &[f32], pitch: &mut [f32], vowel: &[u8], samples: &[i16], p: Settings)
     requires { ⌜ (length (now db) ≤ 2048) × (length (now pitch) ≡ length (now db)) × Pitches 40 2000 (now pitch) ⌝ }
-    ensures { λ _. ⌜ now (pitch .exit) ≡ recovered (repaired (now (pitch .entry))) (now (samples .entry))
-        (marksOf (now (db .entry)) p) (now (vowel .entry)) ⌝ }
+    ensures { λ _. ⌜ now (pitch .exit) ≡ repaired (recovered (now (pitch .entry)) (now (samples .entry))
+        (marksOf (now (db .entry)) p) (now (vowel .entry))) ⌝ }
 {
-    repair_octaves(pitch);
     let mut speech = [0u8; 2048];
     speech_frames(db, p, &mut speech);
     recover_pitch(pitch, samples, &speech[..db.len()], vowel);
+    repair_octaves(pitch);
 }
 
 // The marks of a region: nuclei, then extra candidates and boundaries around them.
@@ -114,7 +115,7 @@ fn nothing(refusal: u32) -> Marks
     }
 }
 
-// The marks of a take whose pitches are repaired and recovered.
+// The marks of a take whose pitches are recovered and repaired.
 fn mark_take(
     db: &[f32],
     pitch: &[f32],

@@ -1,5 +1,6 @@
 -- DEMAND 3 OF THE CHAIN THAT A CALLER HAS, over nucleus records: a take times a whole number other than 0 is answered and left alike; in every call that finds a
--- region the boundaries keep their promises; what is returned is in order; a refused call leaves all that was lent. `Demanded` says each. Assumes nothing.
+-- region the boundaries keep their promises; recovery changes no given pitch; what is returned is in order; a refused call leaves all that was lent. `Demanded`
+-- says each. Assumes nothing.
 use Prim.Native.Nat.{ℕ, zero, suc}
 use mathlib.Core.Path.{_≡_, refl, sym, ap, _∙_}
 use mathlib.Core.List.{List, [], _∷_, _++_}
@@ -9,6 +10,7 @@ use Rattle.nuclei.specs.Nuclei as found
 use Rattle.chain.specs.Chain.{Take, asLent}
 use Rattle.chain.specs.Promises.{Demanded}
 use Rattle.chain.proofs.Demand3.{refusal-scaled, demanded}
+use Rattle.chain.proofs.Pitches.{pitches-admitted}
 use Rattle.kiddwyr.specs.declared.Nucleus.{Nucleus}
 use Rattle.kiddwyr.specs.Records.{recordOf, recordsOf, framesIn, Lists, Left, written, refusalOf, chainOf, returned}
 use Rattle.kiddwyr.proofs.Chained.{nothing-in-records}
@@ -31,4 +33,4 @@ pub chain-demanded : (l : Lists) (t : Take) (o : Left) → o ≡ chainOf t l →
 unfolding chainOf
 chain-demanded l =
     demanded written l _ _ _ _ (λ pitch. nothing-in-records pitch l) (λ (t : Take). refusalOf t l) (λ k t. refusal-scaled k t _ _ _ _ _ _)
-    (λ m. (frames-back (m .nuclei) (l .nuclei), frames-back (m .extras) (l .extras), refl, refl))
+    (λ m. (frames-back (m .nuclei) (l .nuclei), frames-back (m .extras) (l .extras), refl, refl)) (λ t. pitches-admitted t _ _ _ _ _ _)

@@ -58,4 +58,4 @@ unfolding known chainOf overlay regionRefusal ifAdmitted spanned eq printed text
     inCreak voicingEdges inLongSpan minima chosen boundariesIn dbAdmitted pitchAdmitted allOf firstOf passes firstFailed tested refusal chainRefusal
     halfAt wordAt agrees refusalBy records takeIn readTake glyph hexDigits decimalIn markLines pitchLines regionLine listing stepIn cross power nsdf
     window rising boundariesRefusal boundariesWithRefusal narrow add sub mul div round ofInt toUnsigned toBits ofBits lt le ne
-known-right = (refl, (refl, (refl, (refl, (refl, (refl, (refl, (refl, (refl, (refl, (refl, ((refl, refl), (((refl, record { count = refl; entries = refl }), (refl, record { count = refl; entries = refl })), (((refl, record { count = refl; entries = refl }), (refl, record { count = refl; entries = refl })), (refl, (refl, (refl, (refl, (refl, (refl, (refl, (refl, (refl, (refl, (refl, (refl, (refl, tt)))))))))))))))))))))))))))
+known-right = (refl, (refl, (refl, (refl, (refl, (refl, (refl, (refl, (refl, (refl, (refl, ((refl, refl), (((refl, record { count = refl; entries = refl }), (refl, record { count = refl; entries = refl })), (((refl, record { count = refl; entries = refl }), (refl, record { count = refl; entries = refl })), (refl, (refl, (refl, (refl, (refl, (refl, (refl, (refl, (refl, (refl, (refl, (refl, (refl, (refl, (refl, (refl, (refl, (refl, (refl, (refl, (refl, (refl, (refl, tt)))))))))))))))))))))))))))))))))))))

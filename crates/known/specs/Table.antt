@@ -27,8 +27,8 @@ use Rattle.take.specs.File.{settingsIn}
 use Rattle.report.specs.Shown.{printed}
 
 -- a row: a take file and the settings in it; a take file and the whole output; a take, the lent lists, and all that the chain answers and
--- leaves; a pitch track as given and as repaired; a pitch track as given, an estimate for each frame, and the track with what is recovered;
--- samples, a centre, lags and their periodicity; dB, pitches and sonority with a nucleus, and the edges and extra candidates there; dB, pitches
+-- leaves; a pitch track as given and as repaired; a pitch track as given, an estimate for each frame, and the track with what is recovered; the
+-- same with the track repaired after that, which is how the chain leaves it; samples, a centre, lags and their periodicity; dB, pitches and sonority with a nucleus, and the edges and extra candidates there; dB, pitches
 -- and nuclei, and the boundaries of the whole take by the entry without settings and by the one with settings under the classic set; a dB
 -- track and the answer about its region. Pitches and estimates are in whole Hz, 0 for none
 pub data Row : Type 0 where
@@ -37,6 +37,7 @@ pub data Row : Type 0 where
   marks : Take → Lists → Left → Row
   repairs : List ℕ → List ℕ → Row
   recovers : List ℕ → List ℕ → List ℕ → Row
+  mends : List ℕ → List ℕ → List ℕ → Row
   repeats : List ℤ → ℕ → List ℕ → List Float → Row
   splits : List Float → List Float → List Float → ℕ → List ℕ → List ℕ → Row
   parts : List Float → List Float → List ℕ → List ℕ → List ℕ → Row
@@ -79,6 +80,7 @@ Right (prints file text) = printed file ≡ text
 Right (marks take lent left) = chainOf take lent ≡ left
 Right (repairs given after) = sameBits (repaired (track given)) (track after) ≡ true
 Right (recovers given found after) = recoveredFrom (track given) (map estimate found) ≡ track after
+Right (mends given found after) = sameBits (repaired (recoveredFrom (track given) (map estimate found))) (track after) ≡ true
 Right (repeats samples centre lags values) = map (nsdf (window samples centre)) lags ≡ values
 Right (splits db pitch sonority nucleus edges extras) =
     (edgesOf db pitch sonority 0 (length db) (nucleus ∷ []) defaults ≡ edges) × (framesOf (extrasOf db pitch sonority 0 (length db) (nucleus ∷ []) defaults) ≡ extras)
@@ -214,6 +216,16 @@ dipped d = replicate 6 (neg (number 20)) ++ neg (number d) ∷ replicate 6 (neg 
 abbrev broken : List Float
 broken = replicate 5 (number 200) ++ replicate 3 (number 0) ++ replicate 5 (number 238)
 
+-- ---- stretches that adjoin, an octave apart: so many frames of 120 Hz, of 240 and of none
+abbrev low : ℕ → List ℕ
+low n = replicate n 120
+
+abbrev high : ℕ → List ℕ
+high n = replicate n 240
+
+abbrev none : ℕ → List ℕ
+none n = replicate n 0
+
 -- ---- beside a limit: 10 frames of -60 dB, then n of -20
 abbrev burst : ℕ → List Float
 burst n = replicate 10 (neg (number 60)) ++ replicate n (neg (number 20))
@@ -260,6 +272,19 @@ known =
     -- two frames are not recovered, and a frame with no estimate ends a stretch; two stretches that adjoin both are
     ∷ recovers (0 ∷ 0 ∷ 0 ∷ 0 ∷ []) (200 ∷ 200 ∷ 0 ∷ 200 ∷ []) (0 ∷ 0 ∷ 0 ∷ 0 ∷ [])
     ∷ recovers (0 ∷ 0 ∷ 0 ∷ 0 ∷ 0 ∷ 0 ∷ []) (200 ∷ 200 ∷ 200 ∷ 300 ∷ 300 ∷ 300 ∷ []) (200 ∷ 200 ∷ 200 ∷ 300 ∷ 300 ∷ 300 ∷ [])
+    -- of two stretches that adjoin, an octave apart, the one of 3 frames is put right beside 4 or more, and both change places where both have 3; longer ones are
+    -- not put right: of 4 beside 4 and 5 beside 5 only some frames change, of 4 beside 20 two, of 6 none
+    ∷ mends (none 7) (low 4 ++ high 3) (low 7)
+    ∷ mends (none 7) (low 3 ++ high 4) (high 7)
+    ∷ mends (none 6) (low 3 ++ high 3) (high 3 ++ low 3)
+    ∷ mends (none 8) (low 4 ++ high 4) (low 2 ++ high 2 ++ low 2 ++ high 2)
+    ∷ mends (none 10) (low 5 ++ high 5) (low 4 ++ high 1 ++ low 1 ++ high 4)
+    ∷ mends (none 24) (low 20 ++ high 4) (low 22 ++ high 2)
+    ∷ mends (none 12) (low 6 ++ high 6) (low 6 ++ high 6)
+    -- 2 frames between them make no difference, 3 part them; a given run 3 frames later is repaired by itself
+    ∷ mends (none 9) (low 4 ++ none 2 ++ high 3) (low 4 ++ none 2 ++ low 3)
+    ∷ mends (none 10) (low 4 ++ none 3 ++ high 3) (low 4 ++ none 3 ++ high 3)
+    ∷ mends (none 10 ++ high 2 ++ low 1 ++ high 2) (low 4 ++ high 3 ++ none 8) (low 7 ++ none 3 ++ high 5)
     -- a pitch 3 frames before a stretch or after it counts, and 4 frames off it does not
     ∷ recovers (100 ∷ 0 ∷ 0 ∷ 0 ∷ 0 ∷ 0 ∷ []) (0 ∷ 0 ∷ 0 ∷ 200 ∷ 200 ∷ 200 ∷ []) (100 ∷ 0 ∷ 0 ∷ 0 ∷ 0 ∷ 0 ∷ [])
     ∷ recovers (0 ∷ 0 ∷ 0 ∷ 0 ∷ 0 ∷ 100 ∷ []) (200 ∷ 200 ∷ 200 ∷ 0 ∷ 0 ∷ 0 ∷ []) (0 ∷ 0 ∷ 0 ∷ 0 ∷ 0 ∷ 100 ∷ [])

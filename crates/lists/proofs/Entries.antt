@@ -1,7 +1,7 @@
 -- What each, some or every two entries of a list have, carried over to lists that are made of it. Assumes nothing.
 use Prim.Native.Nat.{ℕ, zero, suc, _<_}
 use native.Mathlib.Omega.{arith}
-use mathlib.Core.Path.{_≡_, refl}
+use mathlib.Core.Path.{_≡_, refl, ap₂}
 use mathlib.Core.Bool.{Bool, true, false}
 use mathlib.Core.List.{List, [], _∷_, _++_, map}
 use mathlib.Core.Logic.{inl, inr}
@@ -70,6 +70,11 @@ module _ {A : Type 0} where
   pub pairs-snoc : (R : A → A → Type 0) (l : List A) (x : A) → Pairs R l → Each (λ k. R k x) l → Pairs R (l ++ (x ∷ []))
   pairs-snoc R [] x h e = (tt, tt)
   pairs-snoc R (y ∷ l) x h e = (each-append (R y) l (x ∷ []) (h .0) (e .0, tt), pairs-snoc R l x (h .1) (e .1))
+
+-- functions that agree at each entry
+pub map-same : {A B : Type 0} (f g : A → B) (l : List A) → Each (λ x. f x ≡ g x) l → map f l ≡ map g l
+map-same f g [] h = refl
+map-same f g (x ∷ l) h = ap₂ _∷_ (h .0) (map-same f g l (h .1))
 
 pub each-of-map : {A B : Type 0} (P : B → Type 0) (f : A → B) (l : List A) → Each (λ x. P (f x)) l → Each P (map f l)
 each-of-map P f [] h = tt

@@ -177,6 +177,12 @@ unfolding keep
 keep-fits t i zero = omega arith
 keep-fits t i (suc k) = length-consIf (t i) i (keep t (suc i) k) (keep-fits t (suc i) k)
 
+-- tests that agree on the frames keep the same of them
+pub keep-same : (t u : ℕ → Bool) (i k : ℕ) → ((j : ℕ) → i ≤ j → j < i + k → t j ≡ u j) → keep t i k ≡ keep u i k
+unfolding keep
+keep-same t u i zero f = refl
+keep-same t u i (suc k) f = ap₂ (λ (b : Bool) (l : List ℕ). consIf b i l) (f i (omega arith) (omega arith)) (keep-same t u (suc i) k (λ j g h. f j (omega arith) (omega arith)))
+
 -- those of a + b frames are those of the first a and those of the b after them
 pub keep-split : (t : ℕ → Bool) (i a b : ℕ) → keep t i (a + b) ≡ keep t i a ++ keep t (i + a) b
 unfolding keep

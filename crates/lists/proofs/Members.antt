@@ -54,7 +54,7 @@ unfolding member
 member-over xs x i h = rw (drop-of-length-le xs h)
 
 -- of the k frames from i on, those that pass
-kept-where : (t : ℕ → Bool) (i k x : ℕ) → member (keep t i k) x ≡ true → (i ≤ x) × (x < i + k) × (t x ≡ true)
+pub kept-where : (t : ℕ → Bool) (i k x : ℕ) → member (keep t i k) x ≡ true → (i ≤ x) × (x < i + k) × (t x ≡ true)
 unfolding member keep
 kept-where t i zero x e = absurd (false≢true e)
 kept-where t i (suc k) x e = go (t i) refl e (kept-where t (suc i) k x)

@@ -9,7 +9,7 @@ use mathlib.Core.Logic.{⊎-elim}
 use borrow.Author.Tests.{ltb-true, ltb-false}
 use lib.Dec.{ltb}
 use Rattle.lists.specs.Frames.{someFrame, allFrames, firstFrame, lastFrame}
-use Rattle.lists.proofs.Tests.{or-left, or-right}
+use Rattle.lists.proofs.Tests.{or-left, or-right, and-cases}
 
 -- ---- frames of which none passes, from a to before b
 abbrev pub NonePass : (ℕ → Bool) → ℕ → ℕ → Type 0
@@ -19,7 +19,7 @@ module _ (t : ℕ → Bool) where
   pub none-yet : (i : ℕ) → NonePass t i i
   none-yet i j p q = absurd (omega arith)
 
-  none-join : {a b c : ℕ} → NonePass t a b → NonePass t b c → NonePass t a c
+  pub none-join : {a b c : ℕ} → NonePass t a b → NonePass t b c → NonePass t a c
   none-join {a} {b} f g j p q = go (ltb j b) refl
     where
       go : (x : Bool) → ltb j b ≡ x → t j ≡ false
@@ -101,6 +101,15 @@ back-found t (suc i) c f =
     (λ m. rw (c .after (suc i) (omega arith) (omega arith)) (back-found t i (record { high = omega arith; after = λ j p q. c .after j p (omega arith) }) f))
     (eq-or-lt-of-le (c .high))
 
+pub back-is : (t : ℕ → Bool) (i : ℕ) → SeekingBack t i (lastFrame t i)
+unfolding lastFrame
+back-is t zero = record { high = omega arith; after = none-yet t (0 + 1) }
+back-is t (suc i) = go (t (suc i)) refl (back-is t i)
+  where
+    go : (b : Bool) → t (suc i) ≡ b → SeekingBack t i (lastFrame t i) → SeekingBack t (suc i) (cond b (suc i) (lastFrame t i))
+    go true e c = record { high = omega arith; after = none-yet t (suc i + 1) }
+    go false e c = record { high = omega (arith, c .high); after = let d : i + 1 ≡ suc i = omega arith in none-more t (rw d at (c .after)) e }
+
 module _ (t : ℕ → Bool) (i : ℕ) where
   pub back-start : SeekingBack t i i
   back-start = record { high = omega arith; after = none-yet t (i + 1) }
@@ -149,6 +158,13 @@ module _ {t : ℕ → Bool} {n i : ℕ} {whole : Bool} (k : Looking t n i whole)
       rw e at (k .same)
 
 -- ---- whether all pass
+pub all-at : (t : ℕ → Bool) (a k j : ℕ) → allFrames t a k ≡ true → a ≤ j → j < a + k → t j ≡ true
+unfolding allFrames
+all-at t a zero j e h i = absurd (omega arith)
+all-at t a (suc k) j e h i =
+    let b = and-cases (t a) (allFrames t (a + 1) k) e in
+    ⊎-elim (λ q. rw (← q) (b .0)) (λ l. all-at t (a + 1) k j (b .1) (omega arith) (omega arith)) (eq-or-lt-of-le h)
+
 module _ (t : ℕ → Bool) (i b : ℕ) where
   pub all-on : i < b → t i ≡ true → allFrames t (i + 1) (b - (i + 1)) ≡ allFrames t i (b - i)
   unfolding allFrames

@@ -2,14 +2,22 @@
 use Prim.Native.Nat.{ℕ, _+_, _-_, _≤_, _<_, min}
 use native.Mathlib.Omega.{arith}
 use mathlib.Core.Path.{_≡_}
-use mathlib.Core.Bool.{true, false}
+use mathlib.Core.Bool.{true, false, _&&_}
 use mathlib.Core.List.{List}
-use borrow.Author.Tests.{le-leb, lt-leb}
+use borrow.Author.Tests.{leb-true, le-leb, lt-leb}
+use lib.Dec.{leb}
 use lib.Ieee.{Float}
+use Rattle.lists.proofs.Tests.{and-cases}
 use Rattle.recover.specs.Recovered.{allPitchless, island}
 
 module _ (given : List Float) where
   module _ (s e : ℕ) where
+    pub island-parts : island given s e ≡ true → (3 ≤ e - s) × (allPitchless given (s - 3) (min 3 s) ≡ true) × (allPitchless given e 3 ≡ true)
+    island-parts t =
+        let a = and-cases (leb 3 (e - s)) (allPitchless given (s - 3) (min 3 s) && allPitchless given e 3) t in
+        let b = and-cases (allPitchless given (s - 3) (min 3 s)) (allPitchless given e 3) (a .1) in
+        (leb-true 3 (e - s) (a .0), b .0, b .1)
+
     pub island-short : e - s < 3 → false ≡ island given s e
     island-short h = rw (lt-leb 3 (e - s) h)
 

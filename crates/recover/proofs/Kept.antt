@@ -8,6 +8,7 @@ use mathlib.Core.List.{List}
 use mathlib.Core.Logic.{_⊎_, inl, inr, ⊎-elim}
 use lib.Dec.{T, leb, lit<}
 use lib.ListN.{length, getD}
+use lib.Seq.{ext-getD}
 use lib.Ieee.{Float, nan, binary32, round, le}
 use lib.Ieee.Positive.{positive, num, den, den-pos, between, own-value, le→cross}
 use lib.Ieee.Order.{round-mono}
@@ -21,6 +22,7 @@ use Rattle.lists.proofs.Parts.{getD-any}
 use Rattle.lists.proofs.Tabulated.{length-tabulate, tabulate-at}
 use Rattle.nsdf.specs.declared.period.Estimate.{Estimate}
 use Rattle.nsdf.specs.declared.period.Estimate.the-variants.{Nothing, Hz}
+use Rattle.nsdf.proofs.Range.{not-both}
 use Rattle.powers.specs.Pitch.{hz, Between, PitchOrNone}
 use Rattle.powers.proofs.Ranges.{enclosed}
 use Rattle.recover.specs.Estimates.{pitchless, estimates, InRange}
@@ -28,14 +30,18 @@ use Rattle.recover.specs.Recovered.{startOf, endOf, island, stored, reco
 use Rattle.recover.proofs.Trying.{estimate-of, untried, estimate-has}
 use Rattle.recover.proofs.Walking.{start-alone, end-alone}
 
--- ---- a frame with no estimate is a stretch of one frame, which is not recovered
+-- ---- a frame of a stretch that is not recovered keeps what it had
+pub off-island : (given : List Float) (es : List Estimate) (i : ℕ) → island given (startOf es i) (endOf es i) ≡ false → recoveredAt given es i ≡ getD given i zeroF
+off-island given es i e = rw e
+
+-- a frame with no estimate is such a stretch, of one frame
 none-kept : (given : List Float) (es : List Estimate) (i : ℕ) → getD es i Nothing ≡ Nothing → recoveredAt given es i ≡ getD given i zeroF
 none-kept given es i e =
     let s : startOf es i ≡ i = start-alone es i e in
     let t : endOf es i ≡ i + 1 = end-alone es i e in
     let one : i + 1 - i ≡ 1 = omega arith in
     let short : leb 3 (endOf es i - startOf es i) ≡ false = ap (leb 3) (ap₂ _-_ t s ∙ one) in
-    rw short
+    off-island given es i (rw short)
 
 by-estimate : (P : Float → Type 0) (given : List Float) (es : List Estimate) (i : ℕ) → ((x : Float) → getD es i Nothing ≡ Hz x → P (narrow x))
     → (recoveredAt given es i ≡ getD given i zeroF) ⊎ P (recoveredAt given es i)
@@ -47,7 +53,7 @@ by-estimate P given es i r = go (getD es i Nothing) refl
       where
         pick : (b : Bool) → island given (startOf es i) (endOf es i) ≡ b → (recoveredAt given es i ≡ getD given i zeroF) ⊎ P (recoveredAt given es i)
         pick true t = inr (subst P (sym (ap (λ (b : Bool). cond b (stored (getD es i Nothing)) (getD given i zeroF)) t ∙ ap stored q)) (r x q))
-        pick false t = inl (ap (λ (b : Bool). cond b (stored (getD es i Nothing)) (getD given i zeroF)) t)
+        pick false t = inl (off-island given es i t)
 
 module _ (period : ℕ → Estimate) (p : List Float) (s v : List ℕ) where
   pub length-recovered : length (recoveredBy period p s v) ≡ length p
@@ -55,11 +61,11 @@ module _ (period : ℕ → Estimate) (p : List Float) (s v : List ℕ) where
   length-recovered = length-tabulate (recoveredAt p (estimates period p s v)) (length p)
 
   module _ (i : ℕ) (h : i < length p) where
-    recovered-at : at (recoveredBy period p s v) i ≡ recoveredAt p (estimates period p s v) i
+    pub recovered-at : at (recoveredBy period p s v) i ≡ recoveredAt p (estimates period p s v) i
     unfolding recoveredBy recoveredFrom
     recovered-at = tabulate-at (recoveredAt p (estimates period p s v)) (length p) i nan h
 
-    given-at : getD p i zeroF ≡ at p i
+    pub given-at : getD p i zeroF ≡ at p i
     given-at = getD-any p i zeroF nan h
 
     -- a frame that had a pitch keeps it
@@ -78,6 +84,12 @@ module _ (period : ℕ → Estimate) (p : List Float) (s v : List ℕ) where
       at-each P (recoveredBy period p s v) nan (λ i l.
       let l′ : i < length p = subst (λ (n : ℕ). i < n) length-recovered l in
       ⊎-elim (λ q. subst P (sym q) (each-at P p nan h i l′)) (λ b. b) (kept-or-found i l′ P f))
+
+  -- where the estimator finds nothing, nothing is recovered
+  pub none-recovered : ((k : ℕ) → period k ≡ Nothing) → recoveredBy period p s v ≡ p
+  none-recovered none =
+      ext-getD nan (recoveredBy period p s v) p length-recovered (λ i l.
+      ⊎-elim (λ q. q) (λ b. absurd b) (kept-or-found i (subst (λ (n : ℕ). i < n) length-recovered l) (λ _. ⊥) (λ k x e. not-both (sym (none k) ∙ e))))
 
 -- ---- rounding to f32 keeps a pitch in the range, whose ends are f32 values
 rounded-range : (a c : ℕ) → 0 < c → 60 * c ≤ a * 1 → a * 1 ≤ 600 * c → Between 60 600 (round binary32 false a c)

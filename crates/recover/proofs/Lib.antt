@@ -5,4 +5,5 @@ pub mod Walking
 pub mod Settling
 pub mod Whole
 pub mod Kept
+pub mod Islands
 pub mod Scaled

@@ -24,11 +24,11 @@ near-nothing (Hz p) = refl
 
 module _ (es : List Estimate) where
   -- a frame with no estimate starts a stretch, and so does the next one
-  none-starts : (i : ℕ) → getD es i Nothing ≡ Nothing → starts es i ≡ true
+  pub none-starts : (i : ℕ) → getD es i Nothing ≡ Nothing → starts es i ≡ true
   none-starts zero e = refl
   none-starts (suc i) e = ap not (ap (near (getD es i Nothing)) e ∙ near-nothing (getD es i Nothing))
 
-  next-starts : (i : ℕ) → getD es i Nothing ≡ Nothing → starts es (i + 1) ≡ true
+  pub next-starts : (i : ℕ) → getD es i Nothing ≡ Nothing → starts es (i + 1) ≡ true
   next-starts i e = rw add-one (ap (λ (x : Estimate). not (near x (getD es (suc i) Nothing))) e)
 
   joins-at : (i : ℕ) → 0 < i → joins es i ≡ near (getD es (i - 1) Nothing) (getD es i Nothing)
@@ -38,7 +38,7 @@ module _ (es : List Estimate) where
       rw e
 
   -- ---- the stretch of a frame
-  first-after : (i : ℕ) → First (starts es) (i + 1) (length es - (i + 1)) (endOf es i)
+  pub first-after : (i : ℕ) → First (starts es) (i + 1) (length es - (i + 1)) (endOf es i)
   first-after i = first-is (starts es) (i + 1) (length es - (i + 1))
 
   pub end-above : (i : ℕ) → i < endOf es i

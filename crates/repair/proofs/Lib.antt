@@ -6,3 +6,4 @@ pub mod Sizes
 pub mod Track
 pub mod Runs
 pub mod Promise
+pub mod Apart

@@ -1293,16 +1293,24 @@ pub const PLACES: &[Place] = places! {
             "no room tested for the chain's boundaries" => "usize::MAX / 4";
             "room of n for the chain's boundaries" => "lists.boundaries.len() + 1";
         }
-        "«repaired(pitch);\n    recovered(pitch, samples, &marked(frames.db, settings), frames.vowel);»" {
-            "recovered before it is repaired" => "recovered(pitch, samples, &marked(frames.db, settings), frames.vowel); repaired(pitch);";
+        "«recovered(pitch, samples, &marked(frames.db, settings), frames.vowel);\n    repaired(pitch);»" {
+            "repaired before it is recovered, as before version 6" => "repaired(pitch); recovered(pitch, samples, &marked(frames.db, settings), frames.vowel);";
             "not repaired" => "recovered(pitch, samples, &marked(frames.db, settings), frames.vowel);";
             "not recovered" => "repaired(pitch);";
-            "recovered without speech marks" => "repaired(pitch); recovered(pitch, samples, &vec![1; pitch.len()], frames.vowel);";
-            "recovered without vowel marks" => "repaired(pitch); recovered(pitch, samples, &marked(frames.db, settings), &vec![1; pitch.len()]);";
-            "speech marks by the default margin" => "repaired(pitch); recovered(pitch, samples, &marked(frames.db, DEFAULTS), frames.vowel);";
-            "repaired again after the recovery" => "repaired(pitch); recovered(pitch, samples, &marked(frames.db, settings), frames.vowel); if pitch.iter().all(|p| *p == 0.0 || (40.0..=2000.0).contains(p)) { repaired(pitch); }";
-            "recovered in the region only" => "repaired(pitch); if let Some((start, end)) = found_region(frames.db, settings) { let speech: Vec<u8> = marked(frames.db, settings).iter().enumerate().map(|(i, &m)| if (start as usize..end as usize).contains(&i) { m } else { 0 }).collect(); recovered(pitch, samples, &speech, frames.vowel); }";
-            "recovered with the samples' first half" => "repaired(pitch); recovered(pitch, &samples[..samples.len() / 2], &marked(frames.db, settings), frames.vowel);";
+            "recovered without speech marks" => "recovered(pitch, samples, &vec![1; pitch.len()], frames.vowel); repaired(pitch);";
+            "recovered without vowel marks" => "recovered(pitch, samples, &marked(frames.db, settings), &vec![1; pitch.len()]); repaired(pitch);";
+            "speech marks by the default margin" => "recovered(pitch, samples, &marked(frames.db, DEFAULTS), frames.vowel); repaired(pitch);";
+            "repaired before the recovery too" => "repaired(pitch); recovered(pitch, samples, &marked(frames.db, settings), frames.vowel); if pitch.iter().all(|p| *p == 0.0 || (40.0..=2000.0).contains(p)) { repaired(pitch); }";
+            "repaired twice after the recovery" => "recovered(pitch, samples, &marked(frames.db, settings), frames.vowel); repaired(pitch); if pitch.iter().all(|p| *p == 0.0 || (40.0..=2000.0).contains(p)) { repaired(pitch); }";
+            "recovered again after the repair" => "recovered(pitch, samples, &marked(frames.db, settings), frames.vowel); repaired(pitch); recovered(pitch, samples, &marked(frames.db, settings), frames.vowel);"
+                same "the repair moves no voicing, and a stretch that is left has a pitch within reach of it, of which there are only more";
+            "given pitches not repaired" => "let given = pitch.to_vec(); recovered(pitch, samples, &marked(frames.db, settings), frames.vowel); repaired(pitch); for (p, g) in pitch.iter_mut().zip(given) { if g != 0.0 { *p = g; } }";
+            "recovered pitches repaired without the given ones" => "let mut given = pitch.to_vec(); recovered(pitch, samples, &marked(frames.db, settings), frames.vowel); for (p, g) in pitch.iter_mut().zip(&given) { if *g != 0.0 { *p = 0.0; } } repaired(pitch); repaired(&mut given); for (p, g) in pitch.iter_mut().zip(given) { if g != 0.0 { *p = g; } }"
+                same "recovered frames are 4 or more from given ones, so that no run has both";
+            "repaired only where there is a region" => "recovered(pitch, samples, &marked(frames.db, settings), frames.vowel); if found_region(frames.db, settings).is_some() { repaired(pitch); }";
+            "recovered in the region only" => "if let Some((start, end)) = found_region(frames.db, settings) { let speech: Vec<u8> = marked(frames.db, settings).iter().enumerate().map(|(i, &m)| if (start as usize..end as usize).contains(&i) { m } else { 0 }).collect(); recovered(pitch, samples, &speech, frames.vowel); } repaired(pitch);";
+            "recovered with the samples' first half" => "recovered(pitch, &samples[..samples.len() / 2], &marked(frames.db, settings), frames.vowel); repaired(pitch);";
+            "marks by the pitches before the repair" => "recovered(pitch, samples, &marked(frames.db, settings), frames.vowel); let joined = pitch.to_vec(); repaired(pitch); if let Some(region) = found_region(frames.db, settings) { let marks = found_nuclei(frames.db, &joined, settings, region); let nuclei: Vec<u32> = marks.iter().map(|m| m.frame).collect(); let (extras, edges) = found_extras(frames.db, &joined, frames.sonority, settings, region, &nuclei); let boundaries = found_boundaries(frames.db, &joined, frames.voiced_p, settings, region, &nuclei); return Ok(Found { region: Some(region), nuclei: put(lists.nuclei, marks), extras: put(lists.extras, extras), edges: put(lists.edges, edges), boundaries: put(lists.boundaries, boundaries) }); }";
         }
         "let Some(region) = «found_region(frames.db, settings)» else {" {
             "the region by the default margin" => "found_region(frames.db, DEFAULTS)";
@@ -1371,8 +1379,8 @@ pub const PLACES: &[Place] = places! {
             "sonority before voiced_p" => "take.db.push(r.f32()?); take.pitch.push(r.f32()?); take.sonority.push(r.f32()?); take.voiced_p.push(r.f32()?); take.vowel.push(r.u8()?);";
             "the vowel mark first" => "take.vowel.push(r.u8()?); take.db.push(r.f32()?); take.pitch.push(r.f32()?); take.voiced_p.push(r.f32()?); take.sonority.push(r.f32()?);";
         }
-        "«Take::read(file).and_then(|take| marks(&take))»" {
-            "the marks of a refused file" => "Take::read(file).and_then(|take| marks(&take)).or(Ok(\"region none\\n\".to_string()))";
+        "«Take::read(file).and_then(|take| marks(&take, samples))»" {
+            "the marks of a refused file" => "Take::read(file).and_then(|take| marks(&take, samples)).or(Ok(\"region none\\n\".to_string()))";
         }
         "Err(number) => «format!(\"refused {number}\\n\")»," {
             "no newline after a refusal" => "format!(\"refused {number}\")";
