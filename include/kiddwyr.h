@@ -187,9 +187,10 @@ struct kiddwyr_answer kiddwyr_boundaries(
 /* Every stage on the tracks as those before it left them: recovery, by the speech marks; the repair of
  * given and recovered pitches together; then the region, its nuclei, extras and boundaries. Where no
  * region is found the pitches are written all the same. A given pitch is changed by the repair alone, as
- * kiddwyr_repair would change it, whatever is recovered. It can write a pitch that it would itself refuse:
- * keep the pitches as given if it is to run again. Of two calls that differ in their samples alone, those of one being those of the other times
- * a whole number other than 0, both return and leave the same. Refuses with 1 to 6, 9, 10. */
+ * kiddwyr_repair would change it, whatever is recovered. The chain can write a pitch that it would itself
+ * refuse: keep the pitches as given if it is to run again. Of two calls that differ in their samples
+ * alone, those of one being those of the other times a whole number other than 0, both return and leave
+ * the same. Refuses with 1 to 6, 9, 10. */
 struct kiddwyr_marks kiddwyr_chain(
     const float *db, size_t db_len,
     float *pitch, size_t pitch_len,

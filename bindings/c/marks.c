@@ -68,11 +68,13 @@ static int read_sound(const char *name)
         return 0;
     int good = fread(head, 1, sizeof head, in) == sizeof head && memcmp(head, "RIFF", 4) == 0 &&
         memcmp(head + 8, "WAVEfmt ", 8) == 0 && memcmp(head + 16, form, sizeof form) == 0;
-    while (good && sample_count <= KIDDWYR_MAX_SAMPLES && fread(pair, 1, 2, in) == 2) {
+    size_t left = good ? (head[40] | head[41] << 8 | head[42] << 16 | (size_t)head[43] << 24) / 2 : 0;
+    for (; left > 0 && sample_count <= KIDDWYR_MAX_SAMPLES && fread(pair, 1, 2, in) == 2; left--) {
         int value = pair[0] | pair[1] << 8;
         samples[sample_count++] = (int16_t)(value < 32768 ? value : value - 65536);
     }
-    good = good && !ferror(in);
+    /* A file that ends before its samples do is none. */
+    good = good && (left == 0 || sample_count > KIDDWYR_MAX_SAMPLES);
     fclose(in);
     return good;
 }

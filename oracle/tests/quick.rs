@@ -59,6 +59,36 @@ fn the_octave_is_listed_in_both_orders() {
     assert_eq!(other.count(), 3);
 }
 
+/// What the repair leaves of a run of two stretches, an octave apart, by how many frames each has: the
+/// table of the specification's section 10.
+#[test]
+fn stretches_an_octave_apart_are_repaired_as_told() {
+    let run = |parts: &[(usize, f32)]| -> Vec<f32> {
+        let part = |&(frames, hz)| vec![hz; frames];
+        parts.iter().flat_map(part).collect()
+    };
+    for low in 3..=14 {
+        for high in 3..=14 {
+            let mut pitch = run(&[(low, 120.0), (high, 240.0)]);
+            entry::repair(&mut pitch).expect("these pitches are admitted");
+            let n = low + high;
+            let wanted = match (low, high) {
+                (3, 3) => run(&[(3, 240.0), (3, 120.0)]),
+                (3, _) => run(&[(n, 240.0)]),
+                (_, 3) => run(&[(n, 120.0)]),
+                (4, 4) => run(&[(2, 120.0), (2, 240.0), (2, 120.0), (2, 240.0)]),
+                (5, 5) => run(&[(4, 120.0), (1, 240.0), (1, 120.0), (4, 240.0)]),
+                (4, _) => run(&[(2, 120.0), (n - 2, 240.0)]),
+                (_, 4) => run(&[(n - 2, 120.0), (2, 240.0)]),
+                (5, _) => run(&[(4, 120.0), (n - 4, 240.0)]),
+                (_, 5) => run(&[(n - 4, 120.0), (4, 240.0)]),
+                _ => run(&[(low, 120.0), (high, 240.0)]),
+            };
+            assert_eq!(pitch, wanted, "{low} and {high}");
+        }
+    }
+}
+
 /// `exact` against whole numbers of any length, mostly beside the limits.
 #[test]
 fn powers_are_exact() {

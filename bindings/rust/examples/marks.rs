@@ -54,14 +54,16 @@ fn f32_at(bytes: &[u8], at: usize) -> f32 {
     f32::from_bits(u32_at(bytes, at))
 }
 
-/// The samples of a WAV file with the usual head; none where it has another form.
+/// The samples of a WAV file with the usual head; none where it has another form or ends too soon.
 fn sound(wav: &[u8]) -> Option<Vec<i16>> {
     // PCM, one channel, 16,000 samples and 32,000 bytes a second, 2 bytes at a time, 16 bits.
     let form = *b"\x10\0\0\0\x01\0\x01\0\x80\x3e\0\0\0\x7d\0\0\x02\0\x10\0data";
     let (head, data) = wav.split_at_checked(44)?;
     let good = head.starts_with(b"RIFF") && head[8..16] == *b"WAVEfmt " && head[16..40] == form;
+    let size = u32::from_le_bytes([head[40], head[41], head[42], head[43]]) as usize;
+    let data = data.get(..size).filter(|_| good)?;
     let sample = |pair: &[u8]| i16::from_le_bytes([pair[0], pair[1]]);
-    good.then(|| data.chunks_exact(2).map(sample).collect())
+    Some(data.chunks_exact(2).map(sample).collect())
 }
 
 /// The take of a file.
