@@ -3,7 +3,7 @@
 use std::env;
 use std::path::Path;
 
-/// The library's crate: `rt staticlib` names the archive after it.
+/// The library's crate: `rt lib` names the archive after it.
 const STEM: &str = "kiddwyr";
 
 fn main() {
@@ -11,12 +11,12 @@ fn main() {
     // A relative folder is taken from the project's root.
     let root = Path::new(env!("CARGO_MANIFEST_DIR")).join("../..");
     let given = env::var_os("KIDDWYR_LIBRARY").filter(|folder| !folder.is_empty());
-    let folder = root.join(given.unwrap_or_else(|| "target/staticlib".into()));
+    let folder = root.join(given.unwrap_or_else(|| format!("crates/{STEM}/out").into()));
     let library = folder.join(format!("lib{STEM}.a"));
     if !library.is_file() {
         println!(
-            "cargo::error=there is no {}: make it with `rt staticlib {STEM}` in the project's \
-             root, or set KIDDWYR_LIBRARY to its folder, absolute or from the root.",
+            "cargo::error=there is no {}: make it with `rt lib` in crates/{STEM}, or set \
+             KIDDWYR_LIBRARY to its folder, absolute or from the project's root.",
             library.display()
         );
         return;

@@ -6,7 +6,7 @@ use mathlib.Core.Path.{◌≡◌, refl, sym, ap, ap₂, ◌∙◌}
 use mathlib.Core.Bool.{Bool, true, false, not, ◌&&◌, ◌||◌, cond, and-true, and_assoc, false≢true}
 use mathlib.Core.List.{List, [], ◌∷◌, map, map_congr_left}
 use mathlib.Core.Logic.{◌⊎◌, inl, inr}
-use borrow.Author.Tests.{not-true, not-false, ltb-true, eqb-true, eq-eqb}
+use borrow.Author.Tests.{ltb-true, eqb-true, eq-eqb}
 use lib.Dec.{ltb, eqb}
 use lib.ListN.{length, drop, get_or, drop_of_length-le}
 use lib.Seq.{drop-cons}
@@ -28,7 +28,7 @@ join_one false before b later = refl
 joined_pass : (before : Bool) (tests : List Test) (n : ℕ) → (before && passes tests n) ≡ passed_in_turn before tests n
 unfolding passes all_of passed_in_turn
 joined_pass before [] n = and-true before
-joined_pass before (t ∷ tests) n = join_one (eqb t.number n) before t.passed (passes tests n) ∙ joined_pass _ tests n
+joined_pass before (t ∷ tests) n = join_one (eqb t.number n) before t.passed (passes tests n) ∙ joined_pass (cond (eqb t.number n) (before && t.passed) before) tests n
 
 pub numbered : (order : List ℕ) (tests : List Test) {bs : List Bool} {r : ℕ} → r ≡ first_of order bs → bs ≡ map (passed_in_turn true tests) order → r ≡ first_failed order tests
 unfolding first_failed
@@ -49,13 +49,13 @@ after_first n ns false h = refl
 
 -- ---- from the front: what is left after i entries says the same as the whole
 module _ (ns : List ℕ) (bs : List Bool) (i : ℕ) (h : first_of (drop i ns) (drop i bs) ≡ first_of ns bs) where
-  pub at_failed : (d : Bool) → i < length bs → length bs ≤ length ns → not (get_or bs i d) ≡ true → get_or ns i 0 ≡ first_of ns bs
+  pub at_failed : (d : Bool) → i < length bs → length bs ≤ length ns → get_or bs i d ≡ false → get_or ns i 0 ≡ first_of ns bs
   unfolding first_of
-  at_failed d l m e = rw (not-true (get_or bs i d) e) at (rw (drop-cons ns i 0 (omega arith), drop-cons bs i d l) at h)
+  at_failed d l m e = rw e at (rw (drop-cons ns i 0 (omega arith), drop-cons bs i d l) at h)
 
-  pub past_passed : (d : Bool) → i < length bs → length bs ≤ length ns → not (get_or bs i d) ≡ false → first_of (drop (i + 1) ns) (drop (i + 1) bs) ≡ first_of ns bs
+  pub past_passed : (d : Bool) → i < length bs → length bs ≤ length ns → get_or bs i d ≡ true → first_of (drop (i + 1) ns) (drop (i + 1) bs) ≡ first_of ns bs
   unfolding first_of
-  past_passed d l m e = rw (add-one i) (rw (not-false (get_or bs i d) e) at (rw (drop-cons ns i 0 (omega arith), drop-cons bs i d l) at h))
+  past_passed d l m e = rw (add-one i) (rw e at (rw (drop-cons ns i 0 (omega arith), drop-cons bs i d l) at h))
 
   pub none_failed : length bs ≤ i → 0 ≡ first_of ns bs
   unfolding first_of

@@ -1,5 +1,7 @@
 // What each entry is given is tested here, and the number of the first refusal that applies is returned, 0 where none
 // does. Lengths come first, so that no later test reads more than 2,048 entries of a list.
+#![tactic(auto)]
+
 pub mod numbers;
 pub mod values;
 
@@ -19,7 +21,7 @@ const MAX_SAMPLES: usize = 327680;
 
 // Whether the tests of each number are passed: by `pitch` those of pitches and `voiced_p`, by `sonority` those of
 // sonority and marks. An entry leaves what it is not given at true.
-#[derive(Drop)]
+#[derive(Clone, Copy)]
 struct Passed {
     lengths: bool,
     alike: bool,

@@ -9,11 +9,11 @@ use lib.ListN.{length, get_or, drop, length-append, length-drop}
 use lib.Dec.{ltb, eqb}
 use lib.Ieee.{Float}
 use borrow.Author.Tests.{ltb-true, lt-ltb, le-ltb}
-use Rattle.lists.specs.Results.{consIf, filter}
+use Rattle.lists.specs.Results.{cons_if, filter}
 use Rattle.lists.specs.By.{Each}
 use Rattle.lists.specs.Sorted.{StrictlyRises}
 use Rattle.lists.proofs.Tests.{and_cases, and_both}
-use Rattle.lists.proofs.Fill.{drop-step, filter-le, filter_append}
+use Rattle.lists.proofs.Fill.{drop_step, filter_le, filter_append}
 use Rattle.lists.proofs.Entries.{each_map, each_filter}
 use Rattle.lists.proofs.Members.{strict_at, strict_get}
 use Rattle.smooth.specs.Extrema.{argmin_middle, shallow}
@@ -57,9 +57,9 @@ module _ (level : List Float) (rs : List Span) (dip : Float) (start end : ℕ) (
   pub joints_on : i + 1 < length ns → joints_inside level rs dip start end (drop i ns) ≡ filter (inner start end) (joint level rs dip (get_or ns i 0) (get_or ns (i + 1) 0)) ++ joints_inside level rs dip start end (drop (i + 1) ns)
   unfolding joints_inside joints
   joints_on h =
-      ap (λ (l : List ℕ). filter (inner start end) (joints level rs dip l)) (drop-step ns i 0 (omega arith) ∙ ap (λ (l : List ℕ). get_or ns i 0 ∷ l) (drop-step ns (i + 1) 0 h))
+      ap (λ (l : List ℕ). filter (inner start end) (joints level rs dip l)) (drop_step ns i 0 (omega arith) ∙ ap (λ (l : List ℕ). get_or ns i 0 ∷ l) (drop_step ns (i + 1) 0 h))
       ∙ filter_append (inner start end) (joint level rs dip (get_or ns i 0) (get_or ns (i + 1) 0)) (joints level rs dip (get_or ns (i + 1) 0 ∷ drop (i + 1 + 1) ns))
-      ∙ ap (λ (l : List ℕ). filter (inner start end) (joint level rs dip (get_or ns i 0) (get_or ns (i + 1) 0)) ++ filter (inner start end) (joints level rs dip l)) (sym (drop-step ns (i + 1) 0 h))
+      ∙ ap (λ (l : List ℕ). filter (inner start end) (joint level rs dip (get_or ns i 0) (get_or ns (i + 1) 0)) ++ filter (inner start end) (joints level rs dip l)) (sym (drop_step ns (i + 1) 0 h))
 
   pub joints_over : length ns ≤ i + 1 → joints_inside level rs dip start end (drop i ns) ≡ []
   unfolding joints_inside joints filter
@@ -78,9 +78,9 @@ pub nuclei_at : (n : ℕ) (ns : List ℕ) (i : ℕ) → StrictlyRises 0 n ns →
 nuclei_at n ns i s h = (le_of_lt (strict_at 0 n ns s i h), strict_get 0 n ns (i + 1) h s)
 
 module _ (start end at : ℕ) where
-  only : (b : Bool) → inner start end at ≡ b → filter (inner start end) (at ∷ []) ≡ consIf b at []
+  only : (b : Bool) → inner start end at ≡ b → filter (inner start end) (at ∷ []) ≡ cons_if b at []
   unfolding filter
-  only b e = ap (λ (t : Bool). consIf t at []) e
+  only b e = ap (λ (t : Bool). cons_if t at []) e
 
   -- a frame strictly inside the region is tried
   pub tried_inside : {cap : ℕ} {m m' : List ℕ} {c c' : ℕ} → start < at → at < end → AddedInTurn cap (at ∷ []) m c m' c' → AddedInTurn cap (filter (inner start end) (at ∷ [])) m c m' c'
@@ -142,4 +142,4 @@ module _ (level : List Float) (rs : List Span) (dip : Float) where
 
   pub inside_few : (start end : ℕ) (ns : List ℕ) → length (joints_inside level rs dip start end ns) ≤ 2 * length ns
   unfolding joints_inside
-  inside_few start end ns = le_trans (filter-le (inner start end) (joints level rs dip ns)) (joints_few ns)
+  inside_few start end ns = le_trans (filter_le (inner start end) (joints level rs dip ns)) (joints_few ns)

@@ -10,7 +10,7 @@ use lib.ListN.{length}
 use lib.Dec.{ltb, leb, eqb}
 use lib.Ieee.{Float}
 use borrow.Author.Tests.{ne_eqb, leb-true, ltb-true}
-use Rattle.lists.specs.Results.{consIf, filter}
+use Rattle.lists.specs.Results.{cons_if, filter}
 use Rattle.lists.specs.By.{Each, Some, Pairs}
 use Rattle.lists.specs.Sorted.{sorted, Rises}
 use Rattle.lists.specs.Marks.{member}
@@ -185,7 +185,7 @@ module _ (db : List Float) (threshold : Float) where
   both frames (i ∷ j ∷ js) h = go (not (speech_at threshold db i)) (both frames (j ∷ js) h.1)
     where
       go : (b : Bool) → Each (BothIn frames) (pauses_at db threshold (j ∷ js)) →
-          Each (BothIn frames) (consIf b (record { first = loud_beside db threshold i; last = loud_beside db threshold j }) (pauses_at db threshold (j ∷ js)))
+          Each (BothIn frames) (cons_if b (record { first = loud_beside db threshold i; last = loud_beside db threshold j }) (pauses_at db threshold (j ∷ js)))
       go true r = ((h.0, h.1.0), r)
       go false r = r
 

@@ -8,10 +8,10 @@ use lib.ListN.{length, get_or, set, drop, replicate, length-set, length-drop, dr
 use lib.Seq.{get_or-set_same, get_or-set_other}
 use lib.Dec.{ltb, leb, eqb}
 use borrow.Author.Tests.{ltb-true, leb-true, lt-ltb, le-ltb, le-leb, eqb-true, eqb-false}
-use Rattle.lists.specs.Results.{filter, consIf}
+use Rattle.lists.specs.Results.{filter, cons_if}
 use Rattle.lists.proofs.Tests.{test_iff, and_cases, and_both}
 use Rattle.lists.specs.Sorted.{StrictlyRises}
-use Rattle.lists.proofs.Fill.{drop-step}
+use Rattle.lists.proofs.Fill.{drop_step}
 use Rattle.lists.proofs.Members.{strict_at, strict_get}
 use Rattle.lists.proofs.Marking.{flag_is}
 use Rattle.smooth.specs.Extrema.{inside}
@@ -94,7 +94,7 @@ creaks_split t g gs x = go (filled t g)
     more true b = refl
     more false b = refl
 
-    go : (p : Bool) → in_creak (consIf p g (filter (filled t) gs)) x ≡ (in_creak (consIf p g []) x || in_creak (filter (filled t) gs) x)
+    go : (p : Bool) → in_creak (cons_if p g (filter (filled t) gs)) x ≡ (in_creak (cons_if p g []) x || in_creak (filter (filled t) gs) x)
     go true = more (ltb g.first x && leb x g.last) (in_creak (filter (filled t) gs) x)
     go false = refl
 
@@ -102,7 +102,7 @@ module _ (t : ℕ → Bool) (bs zs : List ℕ) (i : ℕ) where
   pub creaks_on : i < length bs → i < length zs → (x : ℕ) →
       creaks_in t (spans (drop i bs) (drop i zs)) x ≡ (creaks_in t (spans (get_or bs i 0 ∷ []) (get_or zs i 0 ∷ [])) x || creaks_in t (spans (drop (i + 1) bs) (drop (i + 1) zs)) x)
   unfolding spans
-  creaks_on h k x = rw (drop-step bs i 0 h, drop-step zs i 0 k) (creaks_split t (record { first = get_or bs i 0; last = get_or zs i 0 }) (spans (drop (i + 1) bs) (drop (i + 1) zs)) x)
+  creaks_on h k x = rw (drop_step bs i 0 h, drop_step zs i 0 k) (creaks_split t (record { first = get_or bs i 0; last = get_or zs i 0 }) (spans (drop (i + 1) bs) (drop (i + 1) zs)) x)
 
   pub creaks_over : length bs ≤ i → (x : ℕ) → creaks_in t (spans (drop i bs) (drop i zs)) x ≡ false
   unfolding spans filter in_creak
@@ -128,14 +128,14 @@ module _ (t : ℕ → Bool) (b z : ℕ) where
 -- ---- long spans
 module _ (kept : List ℕ) (i : ℕ) where
   span_split : i + 1 < length kept → drop i kept ≡ get_or kept i 0 ∷ get_or kept (i + 1) 0 ∷ drop (i + 1 + 1) kept
-  span_split h = drop-step kept i 0 (omega arith) ∙ ap (λ (l : List ℕ). get_or kept i 0 ∷ l) (drop-step kept (i + 1) 0 h)
+  span_split h = drop_step kept i 0 (omega arith) ∙ ap (λ (l : List ℕ). get_or kept i 0 ∷ l) (drop_step kept (i + 1) 0 h)
 
   pub spans_on : i + 1 < length kept → (x : ℕ) →
       in_long_span (drop i kept) x ≡ ((ltb 35 (get_or kept (i + 1) 0 - get_or kept i 0) && inside (get_or kept i 0 + 1) (get_or kept (i + 1) 0) x) || in_long_span (drop (i + 1) kept) x)
   unfolding in_long_span
   spans_on h x =
       ap (λ (l : List ℕ). in_long_span l x) (span_split h)
-      ∙ ap (λ (l : List ℕ). (ltb 35 (get_or kept (i + 1) 0 - get_or kept i 0) && inside (get_or kept i 0 + 1) (get_or kept (i + 1) 0) x) || in_long_span l x) (sym (drop-step kept (i + 1) 0 h))
+      ∙ ap (λ (l : List ℕ). (ltb 35 (get_or kept (i + 1) 0 - get_or kept i 0) && inside (get_or kept i 0 + 1) (get_or kept (i + 1) 0) x) || in_long_span l x) (sym (drop_step kept (i + 1) 0 h))
 
   pub spans_over : length kept ≤ i + 1 → (x : ℕ) → in_long_span (drop i kept) x ≡ false
   unfolding in_long_span

@@ -14,7 +14,7 @@ use Rattle.lists.specs.Results.{keep, filter, Listed}
 use Rattle.lists.specs.By.{Each}
 use Rattle.lists.specs.Sorted.{sorted}
 use Rattle.lists.specs.Candidates.{Candidate, key_of, frame_in, in_turn, Sound}
-use Rattle.lists.proofs.Fill.{drop-step, Filling, fill_start, fill_end, keep_step, keep_over, keep_fits, filter-step, filter-over, filter-le, listed_take}
+use Rattle.lists.proofs.Fill.{drop_step, Filling, fill_start, fill_end, keep_step, keep_over, keep_fits, filter_step, filter_over, filter_le, listed_take}
 use Rattle.lists.proofs.Entries.{each_map, each_of_map, each_kept}
 use Rattle.lists.proofs.Members.{each_keep, strict_each}
 use Rattle.lists.proofs.Sorting.{sorted_is}
@@ -59,7 +59,7 @@ frame_at (k ∷ keys) h (suc i) g = frame_at keys h.1 i (less i (length keys) g)
 module _ (keys : List ℕ) (i : ℕ) {cap : ℕ} {whole m₀ m : List ℕ} {c₀ c : ℕ} (t : Trying cap whole (map frame_in (drop i keys)) m₀ c₀ m c) where
   pub keys_on : i < length keys → {f : ℕ} {m' : List ℕ} {c' : ℕ} → f ≡ frame_in (get_or keys i 0) → AddedInTurn cap (f ∷ []) m c m' c' → Trying cap whole (map frame_in (drop (i + 1) keys)) m₀ c₀ m' c'
   keys_on h {f} {m'} {c'} e a =
-      trying_some (subst (λ (rest : List ℕ). Trying cap whole rest m₀ c₀ m c) (ap (map frame_in) (drop-step keys i 0 h)) t)
+      trying_some (subst (λ (rest : List ℕ). Trying cap whole rest m₀ c₀ m c) (ap (map frame_in) (drop_step keys i 0 h)) t)
       (subst (λ (x : ℕ). AddedInTurn cap (x ∷ []) m c m' c') e a)
 
   pub keys_end : length keys ≤ i → AddedInTurn cap whole m₀ c₀ m c
@@ -113,17 +113,17 @@ module _ (s : List Float) (t : ℕ → Bool) (mins : List ℕ) where
   keyed l = map key_of (map (minimum s) (filter t l))
 
   pub keyed_start : (out₀ : List ℕ) → length mins ≤ length out₀ → Filling (keyed mins) (keyed (drop 0 mins)) out₀ out₀ 0
-  keyed_start out₀ h = fill_start (keyed mins) out₀ (rw (length-map, length-map) (omega (arith, filter-le t mins)))
+  keyed_start out₀ h = fill_start (keyed mins) out₀ (rw (length-map, length-map) (omega (arith, filter_le t mins)))
 
   module _ {out₀ out : List ℕ} {n i : ℕ} where
     pub keyed_yes : i < length mins → t (get_or mins i 0) ≡ true → Filling (keyed mins) (keyed (drop i mins)) out₀ out n → Filling (keyed mins) (key_of (minimum s (get_or mins i 0)) ∷ keyed (drop (i + 1) mins)) out₀ out n
-    keyed_yes h e f = rw (filter-step t mins i 0 h, e) at f
+    keyed_yes h e f = rw (filter_step t mins i 0 h, e) at f
 
     pub keyed_no : i < length mins → t (get_or mins i 0) ≡ false → Filling (keyed mins) (keyed (drop i mins)) out₀ out n → Filling (keyed mins) (keyed (drop (i + 1) mins)) out₀ out n
-    keyed_no h e f = rw (filter-step t mins i 0 h, e) at f
+    keyed_no h e f = rw (filter_step t mins i 0 h, e) at f
 
     pub keyed_end : length mins ≤ i → Filling (keyed mins) (keyed (drop i mins)) out₀ out n → Listed (keyed mins) out₀ out n
-    keyed_end h f = fill_end (rw (filter-over t mins i h) at f)
+    keyed_end h f = fill_end (rw (filter_over t mins i h) at f)
 
 -- ---- candidates are sound, and lie where the region is
 fits_size : (x : Float) → T (fits binary32 x) → T (fits binary32 (magnitude x))

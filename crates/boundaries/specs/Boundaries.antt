@@ -27,9 +27,9 @@ edges db level pitch voicing b dip skip nuclei =
 
 -- what is kept in the end of a region's ends, these candidates and the minima in the spans that they leave, in order
 unfoldable pub chosen : ℕ → ℕ → ℕ → List ℕ → (List ℕ → List ℕ) → List ℕ
-chosen cap start end candidates minimaOf =
+chosen cap start end candidates minima_of =
     let kept = add_all cap (ends start end) candidates in
-    sorted (add_all cap kept (minimaOf (sorted kept)))
+    sorted (add_all cap kept (minima_of (sorted kept)))
 
 -- the boundaries of a region, by the level and the threshold
 unfoldable pub boundaries_in : List Float → List Float → List Float → List Float → Bounds → Float → List ℕ → List ℕ

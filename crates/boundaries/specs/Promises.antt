@@ -1,6 +1,6 @@
 -- What is promised of the boundaries of a region. Definitions only.
 use Rattle.std.specs.Prelude.{ℕ, ◌+◌, ◌-◌, ◌*◌, ◌≤◌, ◌<◌, not, List, [], ◌∷◌, ◌≡◌, length, Float}
-use Rattle.lists.specs.Results.{consIf}
+use Rattle.lists.specs.Results.{cons_if}
 use Rattle.lists.specs.By.{Each, Some}
 use Rattle.region.specs.Speech.{speech_at, last_of}
 use Rattle.runs.specs.Runs.{Span}
@@ -31,7 +31,7 @@ abbrev pub pauses_at : List Float → Float → List ℕ → List Span
 pauses_at db threshold [] = []
 pauses_at db threshold (i ∷ []) = []
 pauses_at db threshold (i ∷ j ∷ js) =
-    consIf (not (speech_at threshold db i)) (record { first = loud_beside db threshold i; last = loud_beside db threshold j }) (pauses_at db threshold (j ∷ js))
+    cons_if (not (speech_at threshold db i)) (record { first = loud_beside db threshold i; last = loud_beside db threshold j }) (pauses_at db threshold (j ∷ js))
 
 -- the pauses inside the region, by their two edges
 abbrev pub pauses_in : List Float → Float → ℕ → ℕ → List Span

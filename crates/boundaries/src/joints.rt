@@ -15,7 +15,7 @@ use runs::syllables::syllable_runs;
 use smooth::extrema::{argmin_middle, shallow_valley};
 
 // A joint of two nuclei: the frame of the lowest level between them, or both edges of the pitch break.
-#[derive(Drop)]
+#[derive(Clone, Copy)]
 pub enum Joint {
     Lowest(u32),
     Break(u32, u32),

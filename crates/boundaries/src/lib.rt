@@ -1,4 +1,6 @@
 // Boundaries: candidate frames for the edges of syllables, kept in the order of their priority.
+#![tactic(auto)]
+
 ghost use Rattle.std.specs.Prelude.{◌≡◌, [], ◌+◌, ◌≤◌, length};
 ghost use Rattle.lists.specs.Results.{Listed};
 ghost use Rattle.lists.specs.Sorted.{StrictlyRises};

@@ -1,4 +1,6 @@
 // The whole chain: speech marks, recovery, repair, region, nuclei, extra candidates, boundaries, each on the tracks so far.
+#![tactic(auto)]
+
 ghost use Rattle.std.specs.Prelude.{◌≡◌, ◌≤◌, length};
 ghost use Rattle.region.specs.Speech.{marks_of};
 ghost use Rattle.region.specs.declared.Region.TheVariants.{Span};
@@ -16,7 +18,7 @@ use repair::repair_octaves;
 // What the chain answers: a refusal's number, 0 for none; whether there is a region, and its frames; how many entries
 // each list got.
 #[repr(C)]
-#[derive(Drop)]
+#[derive(Clone, Copy)]
 pub struct Marks {
     pub refusal: u32,
     pub found: bool,

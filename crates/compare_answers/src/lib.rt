@@ -1,9 +1,10 @@
 // The functions and the entries on bytes: the input of a kind in, its answer out, so that one list of the reference's answers
 // can be replayed and one function compared, whatever the kind. Numbers are written with the most significant byte first,
 // floats by their bit patterns. An input that a function does not take has an answer that no reference gives.
+#![tactic(auto)]
+
 mod calls;
 pub mod fields;
-mod judge;
 mod short;
 mod tables;
 mod tracks;

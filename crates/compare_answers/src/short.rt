@@ -11,7 +11,7 @@ use smooth::extrema::Extremum;
 use std::num::wrapping_add_u32;
 
 // A head of some bytes, none of them where there is no head, and a number of some bytes.
-#[derive(Drop)]
+#[derive(Clone, Copy)]
 struct Short {
     head: u64,
     head_bytes: usize,

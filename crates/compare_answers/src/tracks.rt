@@ -24,7 +24,7 @@ fn speech(input: &[u8], floats: &[f32], out: &mut [u8]) -> usize {
 }
 
 // A count and three lists, with as many entries as are answered of the first, and of each other one that the kind has.
-#[derive(Drop)]
+#[derive(Clone, Copy)]
 struct Lists {
     count: usize,
     n: usize,

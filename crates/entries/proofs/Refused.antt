@@ -48,16 +48,16 @@ repair_refused old new r (e, h) n = h ∙ sym (refused_is _ _ e n)
 pub recover_refused : (samples : List ℤ) (speech vowel : List ℕ) (old new : List Float) (r : ℕ) → RecoverCall samples speech vowel old new r → (r ≡ 0 → ⊥) → new ≡ old
 recover_refused samples speech vowel old new r (e, h) n = h ∙ sym (refused_is _ _ e n)
 
-module _ (db pitch : List Float) (start end : ℕ) (p : Settings) (oldFrames newFrames : List ℕ) (oldStrengths newStrengths : List Float) where
+module _ (db pitch : List Float) (start end : ℕ) (p : Settings) (old_frames new_frames : List ℕ) (old_strengths new_strengths : List Float) where
   pub nuclei_refused : (r : Answer) →
-      NucleiCall db pitch start end p oldFrames newFrames oldStrengths newStrengths r → (r.refusal ≡ 0 → ⊥) →
-      Unchanged oldFrames newFrames r.count × Unchanged oldStrengths newStrengths r.count
+      NucleiCall db pitch start end p old_frames new_frames old_strengths new_strengths r → (r.refusal ≡ 0 → ⊥) →
+      Unchanged old_frames new_frames r.count × Unchanged old_strengths new_strengths r.count
   nuclei_refused r (e, f, s) n = (unchanged frames_of _ refl e n f, unchanged strengths_of _ refl e n s)
 
-  pub extras_refused : (sonority : List Float) (nuclei oldEdges newEdges : List ℕ) (r : Counted) →
-      ExtrasCall db pitch sonority start end nuclei p oldFrames newFrames oldStrengths newStrengths oldEdges newEdges r → (r.refusal ≡ 0 → ⊥) →
-      Unchanged oldFrames newFrames r.extras × Unchanged oldStrengths newStrengths r.extras × Unchanged oldEdges newEdges r.edges
-  extras_refused sonority nuclei oldEdges newEdges r (e, f, s, g) n =
+  pub extras_refused : (sonority : List Float) (nuclei old_edges new_edges : List ℕ) (r : Counted) →
+      ExtrasCall db pitch sonority start end nuclei p old_frames new_frames old_strengths new_strengths old_edges new_edges r → (r.refusal ≡ 0 → ⊥) →
+      Unchanged old_frames new_frames r.extras × Unchanged old_strengths new_strengths r.extras × Unchanged old_edges new_edges r.edges
+  extras_refused sonority nuclei old_edges new_edges r (e, f, s, g) n =
       (unchanged frames_of _ refl e n f, unchanged strengths_of _ refl e n s, unchanged (λ (l : List ℕ). l) _ refl e n g)
 
 module _ (db pitch voiced : List Float) (start end : ℕ) (nuclei old new : List ℕ) (r : Answer) where

@@ -54,21 +54,21 @@ RecoverCall samples speech vowel old new r = InPlace (recovery_refusal old (leng
 
 -- `nuclei`, into frames and strengths
 abbrev pub NucleiCall : List Float → List Float → ℕ → ℕ → Settings → List ℕ → List ℕ → List Float → List Float → Answer → Type 0
-NucleiCall db pitch start end p oldFrames newFrames oldStrengths newStrengths r =
-    let number = nuclei_refusal db pitch start end p (length oldFrames) (length oldStrengths) in
+NucleiCall db pitch start end p old_frames new_frames old_strengths new_strengths r =
+    let number = nuclei_refusal db pitch start end p (length old_frames) (length old_strengths) in
     let found = if_admitted number (nuclei_of db pitch start end p) [] in
-    (r.refusal ≡ number) × Listed (frames_of found) oldFrames newFrames r.count × Listed (strengths_of found) oldStrengths newStrengths r.count
+    (r.refusal ≡ number) × Listed (frames_of found) old_frames new_frames r.count × Listed (strengths_of found) old_strengths new_strengths r.count
 
 -- `extras`, into frames, strengths and edges
 abbrev pub ExtrasCall : List Float → List Float → List Float → ℕ → ℕ → List ℕ → Settings → List ℕ → List ℕ → List Float → List Float → List ℕ → List ℕ → Counted → Type 0
-ExtrasCall db pitch sonority start end nuclei p oldFrames newFrames oldStrengths newStrengths oldEdges newEdges r =
-    let number = extras_refusal db pitch sonority start end nuclei p (length oldFrames) (length oldStrengths) (length oldEdges) in
+ExtrasCall db pitch sonority start end nuclei p old_frames new_frames old_strengths new_strengths old_edges new_edges r =
+    let number = extras_refusal db pitch sonority start end nuclei p (length old_frames) (length old_strengths) (length old_edges) in
     let found = if_admitted number (extras_of db pitch sonority start end nuclei p) [] in
     let edges = if_admitted number (edges_of db pitch sonority start end nuclei p) [] in
     (r.refusal ≡ number)
-    × Listed (frames_of found) oldFrames newFrames r.extras
-    × Listed (strengths_of found) oldStrengths newStrengths r.extras
-    × Listed edges oldEdges newEdges r.edges
+    × Listed (frames_of found) old_frames new_frames r.extras
+    × Listed (strengths_of found) old_strengths new_strengths r.extras
+    × Listed edges old_edges new_edges r.edges
 
 -- `boundaries_with`
 abbrev pub BoundariesWithCall : List Float → List Float → List Float → ℕ → ℕ → List ℕ → Settings → List ℕ → List ℕ → Answer → Type 0

@@ -14,7 +14,7 @@ use repair::repair_octaves;
 
 // The refusal number, 0 for none, and how many entries were written.
 #[repr(C)]
-#[derive(Drop)]
+#[derive(Clone, Copy)]
 pub struct Answer {
     pub refusal: u32,
     pub count: usize,
@@ -22,7 +22,7 @@ pub struct Answer {
 
 // The refusal number, and the region from start to before end, where one is found.
 #[repr(C)]
-#[derive(Drop)]
+#[derive(Clone, Copy)]
 pub struct Spanned {
     pub refusal: u32,
     pub found: bool,
@@ -32,7 +32,7 @@ pub struct Spanned {
 
 // The refusal number, and how many extra candidates and edges were written.
 #[repr(C)]
-#[derive(Drop)]
+#[derive(Clone, Copy)]
 pub struct Counted {
     pub refusal: u32,
     pub extras: usize,

@@ -7,7 +7,7 @@ use mathlib.Core.List.{List, [], ◌∷◌, foldl}
 use lib.Dec.{leb}
 use lib.Ieee.{Float, le}
 use borrow.Author.Tests.{leb-true, le-leb, lt-leb}
-use Rattle.lists.specs.Results.{consIf, keep}
+use Rattle.lists.specs.Results.{cons_if, keep}
 use Rattle.lists.specs.By.{Each}
 use Rattle.lists.proofs.Tests.{and_cases}
 use Rattle.lists.proofs.Fill.{keep_step, keep_over, keep_pass}
@@ -53,7 +53,7 @@ module _ (son : List Float) (r : Span) (nucleus : ℕ) where
       unfolding may_split
       fair_is = rw (le-leb 6 (k - r.first) (omega (arith, c.from)), le-leb 6 (r.last + 1 - k) (omega arith))
 
-      step : foldl (heavier (change son)) best (consIf fair k (keep (may_split son r nucleus) (k + 1) (r.last + 1 - (k + 1)))) ≡ split_of son r nucleus
+      step : foldl (heavier (change son)) best (cons_if fair k (keep (may_split son r nucleus) (k + 1) (r.last + 1 - (k + 1)))) ≡ split_of son r nucleus
       step = rw (keep_step (may_split son r nucleus) k (r.last + 1) (omega arith), fair_is) at c.same
 
       large : fair ≡ true → le fifth (change son k) ≡ true

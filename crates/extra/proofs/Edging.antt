@@ -6,8 +6,8 @@ use mathlib.Core.Bool.{Bool, ◌||◌}
 use mathlib.Core.List.{List, [], ◌∷◌}
 use lib.ListN.{length, get_or, drop, length-drop}
 use lib.Ieee.{Float}
-use Rattle.lists.specs.Results.{consIf}
-use Rattle.lists.proofs.Fill.{drop-step, length-consIf}
+use Rattle.lists.specs.Results.{cons_if}
+use Rattle.lists.proofs.Fill.{drop_step, length_cons_if}
 use Rattle.smooth.specs.Extrema.{argmin_middle}
 use Rattle.extra.specs.Extra.{edges_between}
 
@@ -16,12 +16,12 @@ module _ (s : List Float) (peak : ℕ → Bool) where
   unfolding edges_between
   between_few [] = omega arith
   between_few (a ∷ []) = omega arith
-  between_few (a ∷ b ∷ bs) = length-consIf (peak a || peak b) (argmin_middle s a b) (edges_between s peak (b ∷ bs)) (between_few (b ∷ bs))
+  between_few (a ∷ b ∷ bs) = length_cons_if (peak a || peak b) (argmin_middle s a b) (edges_between s peak (b ∷ bs)) (between_few (b ∷ bs))
 
   module _ (kept : List ℕ) (i : ℕ) where
-    pub between_step : i + 1 < length kept → edges_between s peak (drop i kept) ≡ consIf (peak (get_or kept i 0) || peak (get_or kept (i + 1) 0)) (argmin_middle s (get_or kept i 0) (get_or kept (i + 1) 0)) (edges_between s peak (drop (i + 1) kept))
+    pub between_step : i + 1 < length kept → edges_between s peak (drop i kept) ≡ cons_if (peak (get_or kept i 0) || peak (get_or kept (i + 1) 0)) (argmin_middle s (get_or kept i 0) (get_or kept (i + 1) 0)) (edges_between s peak (drop (i + 1) kept))
     unfolding edges_between
-    between_step h = rw (drop-step kept i 0 (omega arith), drop-step kept (i + 1) 0 h)
+    between_step h = rw (drop_step kept i 0 (omega arith), drop_step kept (i + 1) 0 h)
 
     pub between_over : length kept ≤ i + 1 → edges_between s peak (drop i kept) ≡ []
     unfolding edges_between

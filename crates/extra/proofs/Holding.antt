@@ -10,11 +10,11 @@ use lib.Dec.{leb, ltb}
 use lib.ListN.{length, get_or, take, drop, length-map, drop_of_length-le}
 use lib.Ieee.{Float}
 use borrow.Author.Tests.{leb-true, leb-false, le-leb, lt-leb, ltb-true, lt-ltb, le-ltb}
-use Rattle.lists.specs.Results.{consIf, filter}
+use Rattle.lists.specs.Results.{cons_if, filter}
 use Rattle.lists.specs.By.{Each}
 use Rattle.lists.specs.Sorted.{StrictlyRises}
 use Rattle.lists.proofs.Tests.{and_cases}
-use Rattle.lists.proofs.Fill.{drop-step, map-consIf, filter-le}
+use Rattle.lists.proofs.Fill.{drop_step, map_cons_if, filter_le}
 use Rattle.lists.proofs.Entries.{each_map, each_append}
 use Rattle.lists.proofs.Members.{strict_from}
 use Rattle.runs.specs.Runs.{Span, spans, Spaced}
@@ -50,12 +50,12 @@ module _ (r : Span) where
   unfolding filter
   skipped kept zero e = refl
   skipped [] (suc q) e = refl
-  skipped (f ∷ kept) (suc q) e = ap (λ (b : Bool). consIf b f (filter (holds r) kept)) ((holds_not f).0 e.0) ∙ skipped kept q e.1
+  skipped (f ∷ kept) (suc q) e = ap (λ (b : Bool). cons_if b f (filter (holds r) kept)) ((holds_not f).0 e.0) ∙ skipped kept q e.1
 
   none_after : (lo n : ℕ) (xs : List ℕ) → r.last + 2 < lo → StrictlyRises lo n xs → filter (holds r) xs ≡ []
   unfolding filter
   none_after lo n [] h s = refl
-  none_after lo n (x ∷ xs) h s = ap (λ (b : Bool). consIf b x (filter (holds r) xs)) ((holds_not x).1 (omega (arith, s.0))) ∙ none_after (x + 1) n xs (omega (arith, s.0)) s.2
+  none_after lo n (x ∷ xs) h s = ap (λ (b : Bool). cons_if b x (filter (holds r) xs)) ((holds_not x).1 (omega (arith, s.0))) ∙ none_after (x + 1) n xs (omega (arith, s.0)) s.2
 
   -- the first frame of a list reaches the run
   abbrev reach : List ℕ → Bool
@@ -72,11 +72,11 @@ module _ (r : Span) where
   none_held lo n [] s e = refl
   none_held lo n (x ∷ xs) s e =
       let h : r.last + 2 < x = leb-false x (r.last + 2) e in
-      ap (λ (b : Bool). consIf b x (filter (holds r) xs)) ((holds_not x).1 h) ∙ none_after (x + 1) n xs (omega arith) s.2
+      ap (λ (b : Bool). cons_if b x (filter (holds r) xs)) ((holds_not x).1 h) ∙ none_after (x + 1) n xs (omega arith) s.2
 
   one_held : (lo n x : ℕ) (xs : List ℕ) → StrictlyRises lo n (x ∷ xs) → Onward (x ∷ xs) → reach (x ∷ xs) ≡ true → reach xs ≡ false → filter (holds r) (x ∷ xs) ≡ x ∷ []
   unfolding filter
-  one_held lo n x xs s o e f = ap (λ (b : Bool). consIf b x (filter (holds r) xs)) (holds_yes x o (leb-true x (r.last + 2) e)) ∙ ap (λ (l : List ℕ). x ∷ l) (none_held (x + 1) n xs s.2 f)
+  one_held lo n x xs s o e f = ap (λ (b : Bool). cons_if b x (filter (holds r) xs)) (holds_yes x o (leb-true x (r.last + 2) e)) ∙ ap (λ (l : List ℕ). x ∷ l) (none_held (x + 1) n xs s.2 f)
 
   two_held : (lo n x : ℕ) (xs : List ℕ) → StrictlyRises lo n (x ∷ xs) → Onward (x ∷ xs) → reach (x ∷ xs) ≡ true → reach xs ≡ true → only_one (filter (holds r) (x ∷ xs)) ≡ Other
   unfolding filter
@@ -108,7 +108,7 @@ module _ (kept : List ℕ) (r : Span) (q n : ℕ) (rises : StrictlyRises 0 n kep
           ap (reach r) (drop_of_length-le kept h) ∙ sym (ap (λ (b : Bool). b && leb (get_or kept i 0) (r.last + 2)) (le-ltb i (length kept) h))
       go false e =
           let h : i < length kept = leb-false (length kept) i e in
-          ap (reach r) (drop-step kept i 0 h) ∙ sym (ap (λ (b : Bool). b && leb (get_or kept i 0) (r.last + 2)) (lt-ltb i (length kept) h))
+          ap (reach r) (drop_step kept i 0 h) ∙ sym (ap (λ (b : Bool). b && leb (get_or kept i 0) (r.last + 2)) (lt-ltb i (length kept) h))
 
   here : filter (holds r) kept ≡ filter (holds r) (drop q kept)
   here = skipped r kept q at.passed.earlier
@@ -125,7 +125,7 @@ module _ (kept : List ℕ) (r : Span) (q n : ℕ) (rises : StrictlyRises 0 n kep
     h = reach_within kept q (r.last + 2) e
 
     first_is : drop q kept ≡ get_or kept q 0 ∷ drop (q + 1) kept
-    first_is = drop-step kept q 0 h
+    first_is = drop_step kept q 0 h
 
     rising : StrictlyRises 0 n (get_or kept q 0 ∷ drop (q + 1) kept)
     rising = subst (StrictlyRises 0 n) first_is risen
@@ -145,17 +145,17 @@ module _ (kept : List ℕ) (r : Span) (q n : ℕ) (rises : StrictlyRises 0 n kep
 module _ (son : List Float) (kept : List ℕ) where
   pub seconds_few : (rs : List Span) → length (seconds son kept rs) ≤ length rs
   unfolding seconds
-  seconds_few rs = omega (arith, filter-le there (map (second_in son kept) rs), length-map rs (second_in son kept))
+  seconds_few rs = omega (arith, filter_le there (map (second_in son kept) rs), length-map rs (second_in son kept))
 
   module _ {A : Type 0} (g : Second → A) (fs ls : List ℕ) where
     pub seconds_room : length (map g (seconds son kept (spans fs ls))) ≤ length fs
     seconds_room = rw length-map (omega (arith, seconds_few (spans fs ls), length_spans fs ls))
 
-    pub seconds_step : (i : ℕ) → i < length fs → i < length ls → map g (seconds son kept (spans_from fs ls i)) ≡ consIf (there (second_in son kept (run_at fs ls i))) (g (second_in son kept (run_at fs ls i))) (map g (seconds son kept (spans_from fs ls (i + 1))))
+    pub seconds_step : (i : ℕ) → i < length fs → i < length ls → map g (seconds son kept (spans_from fs ls i)) ≡ cons_if (there (second_in son kept (run_at fs ls i))) (g (second_in son kept (run_at fs ls i))) (map g (seconds son kept (spans_from fs ls (i + 1))))
     unfolding seconds filter
     seconds_step i h k =
         let x = second_in son kept (run_at fs ls i) in
-        rw (spans_step fs ls i h k) (map-consIf g (there x) x (seconds son kept (spans_from fs ls (i + 1))))
+        rw (spans_step fs ls i h k) (map_cons_if g (there x) x (seconds son kept (spans_from fs ls (i + 1))))
 
     pub seconds_over : (i : ℕ) → length fs ≤ i → map g (seconds son kept (spans_from fs ls i)) ≡ []
     unfolding seconds filter

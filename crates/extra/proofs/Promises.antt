@@ -11,7 +11,7 @@ use lib.ListN.{length, length-map}
 use lib.Dec.{ltb, eqb}
 use lib.Ieee.{Float}
 use borrow.Author.Tests.{le-leb, ltb-true, ltb-false, lt-ltb, eqb-true, eq-eqb}
-use Rattle.lists.specs.Results.{consIf, filter}
+use Rattle.lists.specs.Results.{cons_if, filter}
 use Rattle.lists.specs.By.{Each}
 use Rattle.lists.specs.Sorted.{StrictlyRises, IsSorted}
 use Rattle.lists.specs.Marks.{member, in_order, Once}
@@ -45,7 +45,7 @@ use Rattle.extra.specs.Unpitched.{unpitched_peaks}
 use Rattle.extra.specs.Split.{split_of}
 use Rattle.extra.specs.Merging.{one_syllable, survivor, anchors}
 use Rattle.extra.specs.Seconds.{holds, only_one, held_by, other_part, after_cut, besides, second_in, there, frame_of, edge_of, seconds}
-use Rattle.extra.specs.Extra.{edges_between, extras_from, edges_from, extra_frames, extra_edges, ifAsLong, extras_of, edges_of}
+use Rattle.extra.specs.Extra.{edges_between, extras_from, edges_from, extra_frames, extra_edges, if_as_long, extras_of, edges_of}
 use Rattle.extra.proofs.Voiceless.{peaks_off}
 use Rattle.extra.proofs.Cuts.{split_within}
 use Rattle.extra.proofs.Whole.{anchors_rise}
@@ -92,7 +92,7 @@ module _ (son : List Float) (kept : List ℕ) where
   seconds_each P g Q p [] q = tt
   seconds_each P g Q p (r ∷ rs) q = go (second_in son kept r) (second_beside son kept r) (seconds_each P g Q p rs q.1)
     where
-      go : (x : Second) → Beside son kept r x → Each P (map g (seconds son kept rs)) → Each P (map g (consIf (there x) x (seconds son kept rs)))
+      go : (x : Second) → Beside son kept r x → Each P (map g (seconds son kept rs)) → Each P (map g (cons_if (there x) x (seconds son kept rs)))
       go (At f e) b on = (p r q.0 f e b.0 b.1 b.2, on)
       go Nothing b on = on
 
@@ -101,7 +101,7 @@ module _ (son : List Float) (kept : List ℕ) where
   seconds_rise g w lo n [] s = tt
   seconds_rise g w lo n (r ∷ rs) s = go (second_in son kept r) (second_beside son kept r) (seconds_rise g w (r.last + 4) n rs s.3)
     where
-      go : (x : Second) → Beside son kept r x → StrictlyRises (r.last + 4) n (map g (seconds son kept rs)) → StrictlyRises lo n (map g (consIf (there x) x (seconds son kept rs)))
+      go : (x : Second) → Beside son kept r x → StrictlyRises (r.last + 4) n (map g (seconds son kept rs)) → StrictlyRises lo n (map g (cons_if (there x) x (seconds son kept rs)))
       go (At f e) b on =
           let v = w r b.0 f e b.2 in
           (omega (arith, v.0, s.0), omega (arith, v.1, s.2), strict_from (g (At f e) + 1) (r.last + 4) n (map g (seconds son kept rs)) (omega (arith, v.1)) on)
@@ -120,7 +120,7 @@ between_below s peak lo [] r = tt
 between_below s peak lo (a ∷ []) r = tt
 between_below s peak lo (a ∷ b ∷ bs) r = go (peak a || peak b) (between_below s peak (a + 1) (b ∷ bs) r.2)
   where
-    go : (c : Bool) → Each (λ x. x < length s) (edges_between s peak (b ∷ bs)) → Each (λ x. x < length s) (consIf c (argmin_middle s a b) (edges_between s peak (b ∷ bs)))
+    go : (c : Bool) → Each (λ x. x < length s) (edges_between s peak (b ∷ bs)) → Each (λ x. x < length s) (cons_if c (argmin_middle s a b) (edges_between s peak (b ∷ bs)))
     go true on = (omega (arith, (middle_within Min s a b (omega (arith, r.2.0)) r.2.1).1, r.2.1), on)
     go false on = on
 
@@ -283,7 +283,7 @@ module _ (pitch son : List Float) (peaks kept : List ℕ) (f : ℕ) (m : member 
 -- ---- the extras of a take
 module _ (db pitch son : List Float) (start end : ℕ) (nuclei : List ℕ) (p : Settings) where
   -- what holds of none and over any floor
-  by_length : {A : Type 0} (P : List A → Type 0) (over : Float → List A) → P [] → ((x : Float) → P (over x)) → P (ifAsLong db son (over_floor (floor_of db) over))
+  by_length : {A : Type 0} (P : List A → Type 0) (over : Float → List A) → P [] → ((x : Float) → P (over x)) → P (if_as_long db son (over_floor (floor_of db) over))
   by_length P over n f = go (eqb (length son) (length db))
     where
       go : (b : Bool) → P (cond b (over_floor (floor_of db) over) [])

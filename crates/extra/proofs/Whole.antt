@@ -24,7 +24,7 @@ use Rattle.runs.specs.Runs.{long_runs}
 use Rattle.runs.proofs.Spacing.{long_few}
 use Rattle.nuclei.specs.Nuclei.{nucleus_at}
 use Rattle.nuclei.proofs.Merge.{merged_rises}
-use Rattle.nuclei.proofs.Whole.{listed-nothing}
+use Rattle.nuclei.proofs.Whole.{listed_nothing}
 use Rattle.extra.specs.Merging.{one_syllable, survivor, anchors}
 use Rattle.extra.specs.Seconds.{seconds}
 use Rattle.extra.specs.declared.seconds.Second.{Second}
@@ -78,7 +78,7 @@ module _ (db pitch son : List Float) (start end : ℕ) (nuclei : List ℕ) (p : 
   Written = ExtrasListed (extras_of db pitch son start end nuclei p) (edges_of db pitch son start end nuclei p)
 
   none : extras_of db pitch son start end nuclei p ≡ [] → edges_of db pitch son start end nuclei p ≡ [] → (frames : List ℕ) (strengths : List Float) (edges : List ℕ) → Written frames frames strengths strengths edges edges (record { extras = 0; edges = 0 })
-  none e f frames strengths edges = rw (e, f) (listed-nothing frames, listed-nothing strengths, listed-nothing edges)
+  none e f frames strengths edges = rw (e, f) (listed_nothing frames, listed_nothing strengths, listed_nothing edges)
 
   -- a sonority of another length
   pub extras_unlike : (length son ≡ length db → ⊥) → (frames : List ℕ) (strengths : List Float) (edges : List ℕ) → Written frames frames strengths strengths edges edges (record { extras = 0; edges = 0 })

@@ -1,6 +1,6 @@
 -- The syllables of a take that the nuclei miss, and their edges. Definitions only.
 use Rattle.std.specs.Prelude.{ℕ, ◌≤◌, ◌≡◌, Bool, ◌||◌, cond, List, [], ◌∷◌, ◌++◌, map, eqb, length, Float}
-use Rattle.lists.specs.Results.{Listed, consIf, filter}
+use Rattle.lists.specs.Results.{Listed, cons_if, filter}
 use Rattle.lists.specs.Marks.{member, in_order}
 use Rattle.smooth.specs.Level.{levels}
 use Rattle.smooth.specs.Extrema.{argmin_middle}
@@ -19,7 +19,7 @@ use Rattle.extra.specs.Seconds.{frame_of, edge_of, seconds}
 unfoldable pub edges_between : List Float → (ℕ → Bool) → List ℕ → List ℕ
 edges_between s peak [] = []
 edges_between s peak (a ∷ []) = []
-edges_between s peak (a ∷ b ∷ bs) = consIf (peak a || peak b) (argmin_middle s a b) (edges_between s peak (b ∷ bs))
+edges_between s peak (a ∷ b ∷ bs) = cons_if (peak a || peak b) (argmin_middle s a b) (edges_between s peak (b ∷ bs))
 
 -- ---- by the unpitched peaks and the kept anchors
 -- the frames of the extras: the unpitched peaks that are kept, and the second syllables of the long runs
@@ -45,16 +45,16 @@ extra_edges s pitch son b p nuclei =
 
 -- ---- of a take
 -- a result of a sonority as long as the track; none of another
-abbrev pub ifAsLong {ℓ} : {A : Type ℓ} → List Float → List Float → List A → List A
-ifAsLong db son res = cond (eqb (length son) (length db)) res []
+abbrev pub if_as_long {ℓ} : {A : Type ℓ} → List Float → List Float → List A → List A
+if_as_long db son res = cond (eqb (length son) (length db)) res []
 
 -- the extras of a take in the region start .. end, beside its nuclei
 unfoldable pub extras_of : List Float → List Float → List Float → ℕ → ℕ → List ℕ → Settings → List Nucleus
-extras_of db pitch son start end nuclei p = ifAsLong db son (over_floor (floor_of db) (λ x. map (nucleus_at (levels db) x) (extra_frames (levels db) pitch son (bounds_over x p start end) p nuclei)))
+extras_of db pitch son start end nuclei p = if_as_long db son (over_floor (floor_of db) (λ x. map (nucleus_at (levels db) x) (extra_frames (levels db) pitch son (bounds_over x p start end) p nuclei)))
 
 -- their edges
 unfoldable pub edges_of : List Float → List Float → List Float → ℕ → ℕ → List ℕ → Settings → List ℕ
-edges_of db pitch son start end nuclei p = ifAsLong db son (over_floor (floor_of db) (λ x. extra_edges (levels db) pitch son (bounds_over x p start end) p nuclei))
+edges_of db pitch son start end nuclei p = if_as_long db son (over_floor (floor_of db) (λ x. extra_edges (levels db) pitch son (bounds_over x p start end) p nuclei))
 
 -- ---- in the contracts
 -- level, pitch and sonority of one track
@@ -63,5 +63,5 @@ SameLength s pitch son = (length s ≤ 2048) × (length pitch ≡ length s) × (
 
 -- what a call leaves that writes extras and their edges to three lists, and returns how many they are
 abbrev pub ExtrasListed : List Nucleus → List ℕ → List ℕ → List ℕ → List Float → List Float → List ℕ → List ℕ → Counts → Type 0
-ExtrasListed extras edges oldFrames frames oldStrengths strengths oldEdges newEdges r =
-    Listed (frames_of extras) oldFrames frames r.extras × Listed (strengths_of extras) oldStrengths strengths r.extras × Listed edges oldEdges newEdges r.edges
+ExtrasListed extras edges old_frames frames old_strengths strengths old_edges new_edges r =
+    Listed (frames_of extras) old_frames frames r.extras × Listed (strengths_of extras) old_strengths strengths r.extras × Listed edges old_edges new_edges r.edges

@@ -65,4 +65,4 @@ seconds son kept rs = filter there (map (second_in son kept) rs)
 
 -- what a call leaves that writes the frames and the edges of second syllables to two lists, and returns their count r
 abbrev pub SecondsListed : List Second → List ℕ → List ℕ → List ℕ → List ℕ → ℕ → Type 0
-SecondsListed xs oldFrames frames oldEdges edges r = Listed (map frame_of xs) oldFrames frames r × Listed (map edge_of xs) oldEdges edges r
+SecondsListed xs old_frames frames old_edges edges r = Listed (map frame_of xs) old_frames frames r × Listed (map edge_of xs) old_edges edges r

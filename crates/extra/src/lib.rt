@@ -1,5 +1,7 @@
 // Extras: syllables that the nuclei miss, and the edges that go with them. A vowel can be loud and have no pitch that the
 // tracker accepts, and two syllables may share a voiced run in which neither level nor pitch parts them.
+#![tactic(auto)]
+
 pub mod merging;
 pub mod seconds;
 pub mod split;
@@ -24,7 +26,7 @@ use smooth::level::smoothed_db;
 use unpitched::unpitched_peaks;
 
 // How many extras there are, and how many edges.
-#[derive(Drop)]
+#[derive(Clone, Copy)]
 pub struct Counts {
     pub extras: usize,
     pub edges: usize,

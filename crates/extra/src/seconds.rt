@@ -12,14 +12,14 @@ use runs::near::{RADIUS, near_start};
 use runs::voiced::long_runs;
 
 // The one anchor that a run holds, or that it holds none or several.
-#[derive(Drop)]
+#[derive(Clone, Copy)]
 pub enum Held {
     One(u32),
     Other,
 }
 
 // A second syllable in a run, by its frame and its edge, or that there is none.
-#[derive(Drop)]
+#[derive(Clone, Copy)]
 pub enum Second {
     At(u32, u32),
     Nothing,

@@ -18,7 +18,7 @@ const MIN_PART: usize = 6;
 const SPLIT_FROM_NUCLEUS: usize = 3;
 
 // The first frame of the second part of a run, or that it does not split.
-#[derive(Drop)]
+#[derive(Clone, Copy)]
 pub enum Cut {
     Before(usize),
     Uncut,

@@ -1,19 +1,25 @@
 -- What reading leaves, by one read and by all. Definitions only.
-use Rattle.std.specs.Prelude.{ℕ, zero, suc, ◌+◌, ◌<◌, ◌≡◌, List, ℤ, pos, negsuc, take}
-use Rattle.input.specs.Held.{Adds, Added}
+use Rattle.std.specs.Prelude.{ℕ, zero, suc, ◌+◌, ◌<◌, ◌≡◌, List, Result, Ok, Err, take}
+use Rattle.input.specs.Held.{Holds, Adds, Added}
 use Rattle.input.specs.declared.Got.{Got}
 use Rattle.input.specs.declared.Got.TheVariants as got
 use Rattle.input.specs.declared.Input.{Input}
 use Rattle.input.specs.declared.Input.TheVariants as input
 
--- one read, by what the system answered: a failure, the end, or how many bytes it put at the front of the chunk, which are then added as a piece
-abbrev pub Brought : ℤ → List ℕ → List ℕ → ℕ → List ℕ → Got → Type 0
-Brought (negsuc k) chunk file total left r = r ≡ got.Failed
-Brought (pos zero) chunk file total left r = (r ≡ got.Ended) × (left ≡ file)
-Brought (pos (suc k)) chunk file total left r = (r ≡ got.Counted (total + suc k)) × Adds (take (suc k) chunk) file total left (total + suc k)
+-- one read, by what the reader answered: an error, the end, or how many bytes it put at the front of the chunk, which are then added as a piece
+abbrev pub Brought : {E : Type 0} → Result ℕ E → List ℕ → List ℕ → ℕ → List ℕ → Got → Type 0
+Brought (Err e) chunk file total left r = r ≡ got.Failed
+Brought (Ok zero) chunk file total left r = (r ≡ got.Ended) × (left ≡ file)
+Brought (Ok (suc k)) chunk file total left r = (r ≡ got.Counted (total + suc k)) × Adds (take (suc k) chunk) file total left (total + suc k)
 
 -- all reads: pieces were added one after the other, and where the end was not reached there are more than `most` bytes
 abbrev pub Stopped : ℕ → List ℕ → List ℕ → Input → Type 0
 Stopped most file left input.Failed = Unit
 Stopped most file left (input.Whole total) = (pieces : List (List ℕ)) × Added pieces file 0 left total
 Stopped most file left (input.Longer total) = (pieces : List (List ℕ)) × Added pieces file 0 left total × (most < total)
+
+-- all reads of an input that is known: to its end all of it came, and else its first bytes, more than `most`
+abbrev pub StoppedIn : ℕ → List ℕ → List ℕ → Input → Type 0
+StoppedIn most came left input.Failed = Unit
+StoppedIn most came left (input.Whole total) = Holds came left total
+StoppedIn most came left (input.Longer total) = Holds (take total came) left total × (most < total)

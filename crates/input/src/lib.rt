@@ -1,17 +1,23 @@
-// Standard input as it comes, in pieces: its first bytes are kept in a lent file, and all of them are counted.
+// An input as it comes, in pieces, from any reader, as standard input: its first bytes are kept in a lent file, and all of
+// them are counted.
 //
-// No contract can say what the system reads. But `take_in` is given all that it answered, the count and the bytes, and
-// `read_some` hands it on; so a piece that came is held, once and after those before it.
-ghost use Rattle.std.specs.Prelude.{◌≡◌, ◌+◌, ◌-◌, ◌<◌, min, ℤ, length};
-ghost use Rattle.std.proofs.Math.Seq.{paste};
-ghost use Rattle.libc.specs.Io.{Moved};
-ghost use Rattle.input.specs.Held.{Adds};
-ghost use Rattle.input.specs.Reading.{Brought, Stopped};
+// No contract can say what the system reads. But `take_in` is given all that the reader answered, the count or the error and
+// the bytes, and `read_some` hands it on; so a piece that came is held, once and after those before it.
+#![tactic(auto)]
 
-use libc::STDIN_FILENO;
+ghost use Rattle.std.specs.Prelude.{◌≡◌, ◌+◌, ◌-◌, ◌<◌, min, ℕ, Result, IfSome, length};
+ghost use Rattle.std.proofs.Math.Seq.{paste};
+ghost use Rattle.std.specs.Io.{ReadsAtMost};
+ghost use Rattle.std.specs.Io.KnownBytes.{ReadConsumes};
+ghost use Rattle.std.specs.declared.io.Error.{Error};
+ghost use Rattle.input.specs.Held.{Adds};
+ghost use Rattle.input.specs.Reading.{Brought, Stopped, StoppedIn};
+
+use std::io;
+use std::io::Read;
 
 // What a read brought: it failed, the input has ended, or there are now so many bytes in all.
-#[derive(Drop)]
+#[derive(Clone, Copy)]
 pub enum Got {
     Failed,
     Ended,
@@ -19,7 +25,7 @@ pub enum Got {
 }
 
 // How reading stopped: it failed, at the end of so many bytes, or with more bytes than were asked for.
-#[derive(Drop)]
+#[derive(Clone, Copy)]
 pub enum Input {
     Failed,
     Whole(usize),
@@ -59,15 +65,14 @@ fn add_piece(piece: &[u8], file: &mut [u8], total: usize) -> usize
     total + piece.len()
 }
 
-// Adds what a read brought: the system answered `got`, and the bytes are in the chunk.
-fn take_in(got: isize, chunk: &[u8], file: &mut [u8], total: usize) -> Got
-    requires { (total + length chunk.now < 18446744073709551616) × Moved (length chunk.now) got }
+// Adds what a read brought: the reader answered `got`, and the bytes are in the chunk.
+fn take_in(got: io::Result<usize>, chunk: &[u8], file: &mut [u8], total: usize) -> Got
+    requires { (total + length chunk.now < 18446744073709551616) × ReadsAtMost got chunk.now }
     ensures { Brought got chunk.now file.old total file.new result }
 {
-    if got < 0 {
+    let Ok(n) = got else {
         return Got::Failed;
-    }
-    let n = io::count(got, chunk);
+    };
     if n == 0 {
         return Got::Ended;
     }
@@ -75,23 +80,25 @@ fn take_in(got: isize, chunk: &[u8], file: &mut [u8], total: usize) -> Got
 }
 
 // Reads once, into the chunk, and adds what came.
-fn read_some(chunk: &mut [u8], file: &mut [u8], total: usize) -> Got
+fn read_some<R: Read>(input: &mut R, chunk: &mut [u8], file: &mut [u8], total: usize) -> Got
     requires { total + length chunk.old < 18446744073709551616 }
-    ensures { (got : ℤ) × Brought got chunk.new file.old total file.new result }
+    ensures { (got : Result ℕ Error) × Brought got chunk.new file.old total file.new result
+        × ReadConsumes (R.remaining input.old) (R.remaining input.new) got chunk.new }
 {
-    let got = libc::read(STDIN_FILENO, chunk);
+    let got = input.read(chunk);
     take_in(got, chunk, file, total)
 }
 
 // Reads the input to its end, or until there are more than `most` bytes.
-pub fn read_all(file: &mut [u8], most: usize) -> Input
+pub fn read_all<R: Read>(input: &mut R, file: &mut [u8], most: usize) -> Input
     requires { most + 65536 < 18446744073709551616 }
-    ensures { Stopped most file.old file.new result }
+    ensures pieces { Stopped most file.old file.new result }
+    ensures known { IfSome (R.remaining input.old) (λ came. StoppedIn most came file.new result) }
 {
-    let mut chunk = io::large_buffer();
+    let mut chunk = [0u8; 65536];
     let mut total: usize = 0;
     while total <= most {
-        match read_some(&mut chunk, file, total) {
+        match read_some(input, &mut chunk, file, total) {
             Got::Failed => {
                 return Input::Failed;
             }

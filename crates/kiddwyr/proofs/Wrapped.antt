@@ -13,15 +13,11 @@ use Rattle.nuclei.specs.Nuclei.{frames_of, strengths_of}
 use Rattle.entries.specs.Stages.{BoundariesCall, BoundariesWithCall}
 use Rattle.entries.specs.declared.stages.Answer.{Answer}
 use Rattle.entries.specs.declared.stages.Counted.{Counted}
-use Rattle.within.specs.Within.{Scratch, Laid, ExtrasWithin}
+use Rattle.within.specs.Within.{Laid, ExtrasWithin}
 use Rattle.kiddwyr.specs.declared.Nucleus.{Nucleus}
 use Rattle.kiddwyr.specs.Records.{record_of, records_of, frames_in, ExtrasCall}
 use Rattle.kiddwyr.specs.Copied.{paired, Filled, FramesTaken}
 use Rattle.kiddwyr.proofs.Given.{extras_given, extras_given_found, edges_given_found, with_given, with_given_found, bounds_given, bounds_given_found}
-
--- arrays of one value, as the walks make them
-pub scratch : (f : ℕ) (s : Float) → Scratch (replicate 2048 f) (replicate 2048 s)
-scratch f s = (length-replicate 2048 f, length-replicate 2048 s)
 
 -- what is laid can be copied
 pub laid_room : {ns : List found.Nucleus} {f : List ℕ} {s : List Float} {room r : ℕ} → Laid ns f s room r → (r ≤ length f) × (r ≤ length s) × (r ≤ room)
@@ -48,11 +44,11 @@ module _ (nuclei : List Nucleus) (blank : ℕ) {given : List ℕ} {count : ℕ} 
   frames : take count given ≡ take 2049 (frames_in nuclei)
   frames = listed_take taken ∙ ap (λ (n : ℕ). take n (frames_in nuclei)) (length-replicate 2049 blank)
 
-  pub extras_done : (db pitch sonority : List Float) (start end : ℕ) (p : Settings) {f : List ℕ} {s : List Float} {old new : List Nucleus} {oldEdges newEdges : List ℕ} {r : Counted}
-      → ExtrasWithin db pitch sonority start end (take count given) p (length old) f s oldEdges newEdges r → Filled f s r.extras old new → ExtrasCall db pitch sonority start end (frames_in nuclei) p old new oldEdges newEdges r
-  extras_done db pitch sonority start end p {old = old} {oldEdges = oldEdges} e filled =
+  pub extras_done : (db pitch sonority : List Float) (start end : ℕ) (p : Settings) {f : List ℕ} {s : List Float} {old new : List Nucleus} {old_edges new_edges : List ℕ} {r : Counted}
+      → ExtrasWithin db pitch sonority start end (take count given) p (length old) f s old_edges new_edges r → Filled f s r.extras old new → ExtrasCall db pitch sonority start end (frames_in nuclei) p old new old_edges new_edges r
+  extras_done db pitch sonority start end p {old = old} {old_edges = old_edges} e filled =
       let n = length old in
-      let k = length oldEdges in (
+      let k = length old_edges in (
         e.0 ∙ extras_given db pitch sonority start end p n n k (frames_in nuclei) frames,
         relisted (ap records_of (extras_given_found db pitch sonority start end p n n k (frames_in nuclei) frames)) (laid_listed e.1 filled),
         relisted (edges_given_found db pitch sonority start end p n n k (frames_in nuclei) frames) e.2,

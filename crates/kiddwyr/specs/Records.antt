@@ -64,12 +64,12 @@ NucleiCall db pitch start end p old new r =
 
 -- `kiddwyr_extras`, around the frames of nuclei
 abbrev pub ExtrasCall : List Float → List Float → List Float → ℕ → ℕ → List ℕ → Settings → List Nucleus → List Nucleus → List ℕ → List ℕ → Counted → Type 0
-ExtrasCall db pitch sonority start end nuclei p old new oldEdges newEdges r =
+ExtrasCall db pitch sonority start end nuclei p old new old_edges new_edges r =
     let n = length old in
-    let e = length oldEdges in
+    let e = length old_edges in
     (r.refusal ≡ extras_refusal db pitch sonority start end nuclei p n n e)
     × Listed (records_of (extras_entry db pitch sonority start end nuclei p n n e)) old new r.extras
-    × Listed (edges_entry db pitch sonority start end nuclei p n n e) oldEdges newEdges r.edges
+    × Listed (edges_entry db pitch sonority start end nuclei p n n e) old_edges new_edges r.edges
 
 -- `kiddwyr_chain`; `pitch` is the track that it leaves
 abbrev pub ChainCall : Take → Lists → Lists → List Float → Marks → Type 0

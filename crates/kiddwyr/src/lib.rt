@@ -1,5 +1,7 @@
 // The entries under their C names, over nucleus records: each copies between a lent list of records and plain lists of its
 // own, and leaves the rest to the entry over plain lists.
+#![tactic(auto)]
+
 ghost use Rattle.std.specs.Prelude.{◌≡◌, ◌≤◌, length};
 ghost use Rattle.region.specs.Defaults.{defaults, classic};
 ghost use Rattle.entries.specs.Stages.{MarksCall, RegionCall, RepairCall, RecoverCall, BoundariesWithCall, BoundariesCall};
@@ -15,7 +17,7 @@ use within::{boundaries_given, boundaries_with_given, chain_within, extras_withi
 
 // A nucleus: its frame, and its level over the floor in dB.
 #[repr(C)]
-#[derive(Drop)]
+#[derive(Clone, Copy)]
 pub struct Nucleus {
     pub frame: u32,
     pub strength: f32,

@@ -6,9 +6,9 @@ use mathlib.Core.Bool.{Bool, true, false}
 use mathlib.Core.List.{List, [], ◌∷◌, ◌++◌}
 use lib.Bits.{bit_or, or_add_and, and_le_l, and_le_r}
 use lib.ListN.{length, get_or, drop, drop_of_length-le}
-use Rattle.lists.specs.Results.{more_if, consIf, keep}
+use Rattle.lists.specs.Results.{more_if, cons_if, keep}
 use Rattle.lists.specs.By.{count_if}
-use Rattle.lists.proofs.Fill.{drop-step, keep_step, keep_over}
+use Rattle.lists.proofs.Fill.{drop_step, keep_step, keep_over}
 
 -- one entry counts at most once
 pub at_most_one : (b : Bool) {r : ℕ} → r ≡ more_if b 0 → r ≤ 1
@@ -22,7 +22,7 @@ neither false a {r} e z = (omega (arith, z, or_add_and a r, and_le_r a r), refl)
 
 module _ {A : Type 0} (p : A → Bool) where
   pub count_step : (l : List A) (i n : ℕ) (d : A) {r : ℕ} → i < length l → r ≡ more_if (p (get_or l i d)) 0 → n + r + count_if p (drop (i + 1) l) ≡ n + count_if p (drop i l)
-  count_step l i n d {r} h e = rw (e, drop-step l i d h) (go (p (get_or l i d)) (count_if p (drop (i + 1) l)))
+  count_step l i n d {r} h e = rw (e, drop_step l i d h) (go (p (get_or l i d)) (count_if p (drop (i + 1) l)))
     where
       go : (b : Bool) (m : ℕ) → n + more_if b 0 + m ≡ n + more_if b m
       go true m = omega arith
@@ -44,7 +44,7 @@ module _ (t : ℕ → Bool) (len : ℕ) where
   pub frames_step : (i n : ℕ) {r : ℕ} → i < len → r ≡ more_if (t i) 0 → n + r + length (keep t (i + 1) (len - (i + 1))) ≡ n + length (keep t i (len - i))
   frames_step i n {r} h e = rw (e, keep_step t i len h) (go (t i) (keep t (i + 1) (len - (i + 1))))
     where
-      go : (b : Bool) (l : List ℕ) → n + more_if b 0 + length l ≡ n + length (consIf b i l)
+      go : (b : Bool) (l : List ℕ) → n + more_if b 0 + length l ≡ n + length (cons_if b i l)
       go true l = omega arith
       go false l = omega arith
 

@@ -6,7 +6,7 @@ use mathlib.Core.Bool.{Bool, true, false}
 use mathlib.Core.List.{List, [], ◌∷◌, ◌++◌, map}
 use mathlib.Core.Logic.{inl, inr}
 use lib.ListN.{length, get_or}
-use Rattle.lists.specs.Results.{consIf, filter}
+use Rattle.lists.specs.Results.{cons_if, filter}
 use Rattle.lists.specs.By.{Each, Some, Pairs}
 
 module _ {A : Type 0} where
@@ -42,7 +42,7 @@ module _ {A : Type 0} where
   each_filter p [] = tt
   each_filter p (x ∷ l) = go (p x) refl (each_filter p l)
     where
-      go : (b : Bool) → p x ≡ b → Each (λ x. p x ≡ true) (filter p l) → Each (λ x. p x ≡ true) (consIf b x (filter p l))
+      go : (b : Bool) → p x ≡ b → Each (λ x. p x ≡ true) (filter p l) → Each (λ x. p x ≡ true) (cons_if b x (filter p l))
       go true e h = (e, h)
       go false e h = h
 
@@ -51,11 +51,12 @@ module _ {A : Type 0} where
   each_kept P p [] h = tt
   each_kept P p (x ∷ l) h = go (p x) (each_kept P p l h.1)
     where
-      go : (b : Bool) → Each P (filter p l) → Each P (consIf b x (filter p l))
+      go : (b : Bool) → Each P (filter p l) → Each P (cons_if b x (filter p l))
       go true r = (h.0, r)
       go false r = r
 
   pub some_left : (P : A → Type 0) (l r : List A) → Some P l → Some P (l ++ r)
+  some_left P [] r x' = elim x' [ ]
   some_left P (x ∷ l) r (inl p) = inl p
   some_left P (x ∷ l) r (inr h) = inr (some_left P l r h)
 

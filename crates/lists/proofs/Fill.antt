@@ -11,7 +11,7 @@ use lib.Dec.{leb}
 use borrow.Author.Tests.{leb-true, leb-false}
 use lib.ListN.{length, get_or, take, drop, set, length-append, length-drop, drop_of_length-le}
 use lib.Seq.{drop-cons, set_at, take-append_seam}
-use Rattle.lists.specs.Results.{overlay, Listed, Front, Pushed, keep, consIf, filter, more_if}
+use Rattle.lists.specs.Results.{overlay, Listed, Front, Pushed, keep, cons_if, filter, more_if}
 
 pub record Filling {ℓ} {A : Type ℓ} (whole rest out₀ out : List A) (n : ℕ) : Type ℓ where
   pub done : List A
@@ -64,15 +64,15 @@ module _ {ℓ} {A : Type ℓ} {b : Bool} (x : A) (n : ℕ) (old : List A) where
 
 module _ {ℓ} {A : Type ℓ} {whole rest out₀ out : List A} {n : ℕ} (b : Bool) (x : A) where
   -- a push by a callee
-  pub fill_pushed : {out' : List A} {n' : ℕ} → Filling whole (consIf b x rest) out₀ out n → Pushed b x n out out' n' → Filling whole rest out₀ out' n'
+  pub fill_pushed : {out' : List A} {n' : ℕ} → Filling whole (cons_if b x rest) out₀ out n → Pushed b x n out out' n' → Filling whole rest out₀ out' n'
   fill_pushed {out'} {n'} f p = rw (p.count, p.entries) (go b f)
     where
-      go : (b : Bool) → Filling whole (consIf b x rest) out₀ out n → Filling whole rest out₀ (cond b (set out n x) out) (more_if b n)
+      go : (b : Bool) → Filling whole (cons_if b x rest) out₀ out n → Filling whole rest out₀ (cond b (set out n x) out) (more_if b n)
       go true f = fill_push f
       go false f = f
 
-pub fill-fitsIf {ℓ} : {A : Type ℓ} {whole out₀ out : List A} {n : ℕ} (b : Bool) (x : A) (rest : List A) → b ≡ true → Filling whole (consIf b x rest) out₀ out n → n < length out
-fill-fitsIf {A} {whole} {out₀} {out} {n} b x rest e f = let g : Filling whole (x ∷ rest) out₀ out n = rw e at f in (fill_fits g).0
+pub fill_fits_if {ℓ} : {A : Type ℓ} {whole out₀ out : List A} {n : ℕ} (b : Bool) (x : A) (rest : List A) → b ≡ true → Filling whole (cons_if b x rest) out₀ out n → n < length out
+fill_fits_if {A} {whole} {out₀} {out} {n} b x rest e f = let g : Filling whole (x ∷ rest) out₀ out n = rw e at f in (fill_fits g).0
 
 -- ---- the list that comes back
 module _ {ℓ} {A : Type ℓ} {res old new : List A} {r : ℕ} (l : Listed res old new r) where
@@ -102,36 +102,36 @@ pub relisted : {A : Type 0} {res other old new : List A} {r : ℕ} → res ≡ o
 relisted {A} {res} {other} {old} {new} {r} e l = subst (λ (z : List A). Listed z old new r) e l
 
 -- ---- the entries of a list that pass
-pub map-consIf {ℓ κ} : {A : Type ℓ} {B : Type κ} (g : A → B) (b : Bool) (x : A) (xs : List A) → map g (consIf b x xs) ≡ consIf b (g x) (map g xs)
-map-consIf g true x xs = refl
-map-consIf g false x xs = refl
+pub map_cons_if {ℓ κ} : {A : Type ℓ} {B : Type κ} (g : A → B) (b : Bool) (x : A) (xs : List A) → map g (cons_if b x xs) ≡ cons_if b (g x) (map g xs)
+map_cons_if g true x xs = refl
+map_cons_if g false x xs = refl
 
-cons_if_append : {A : Type 0} (b : Bool) (x : A) (l r : List A) → consIf b x (l ++ r) ≡ consIf b x l ++ r
+cons_if_append : {A : Type 0} (b : Bool) (x : A) (l r : List A) → cons_if b x (l ++ r) ≡ cons_if b x l ++ r
 cons_if_append true x l r = refl
 cons_if_append false x l r = refl
 
-pub length-consIf {ℓ} : {A : Type ℓ} (b : Bool) (x : A) (xs : List A) {k : ℕ} → length xs ≤ k → length (consIf b x xs) ≤ suc k
-length-consIf true x xs h = omega arith
-length-consIf false x xs h = omega arith
+pub length_cons_if {ℓ} : {A : Type ℓ} (b : Bool) (x : A) (xs : List A) {k : ℕ} → length xs ≤ k → length (cons_if b x xs) ≤ suc k
+length_cons_if true x xs h = omega arith
+length_cons_if false x xs h = omega arith
 
-pub filter-le {ℓ} : {A : Type ℓ} (p : A → Bool) (xs : List A) → length (filter p xs) ≤ length xs
+pub filter_le {ℓ} : {A : Type ℓ} (p : A → Bool) (xs : List A) → length (filter p xs) ≤ length xs
 unfolding filter
-filter-le p [] = omega arith
-filter-le p (x ∷ xs) = length-consIf (p x) x (filter p xs) (filter-le p xs)
+filter_le p [] = omega arith
+filter_le p (x ∷ xs) = length_cons_if (p x) x (filter p xs) (filter_le p xs)
 
 pub filter_append : {A : Type 0} (p : A → Bool) (xs ys : List A) → filter p (xs ++ ys) ≡ filter p xs ++ filter p ys
 unfolding filter
 filter_append p [] ys = refl
-filter_append p (x ∷ xs) ys = ap (consIf (p x) x) (filter_append p xs ys) ∙ cons_if_append (p x) x (filter p xs) (filter p ys)
+filter_append p (x ∷ xs) ys = ap (cons_if (p x) x) (filter_append p xs ys) ∙ cons_if_append (p x) x (filter p xs) (filter p ys)
 
 -- the next entry, at the code's i + 1
-pub drop-step {ℓ} : {A : Type ℓ} (l : List A) (i : ℕ) (d : A) → i < length l → drop i l ≡ get_or l i d ∷ drop (i + 1) l
-drop-step {A} l i d h = drop-cons l i d h ∙ ap (λ (k : ℕ). get_or l i d ∷ drop k l) (sym (add-one i))
+pub drop_step {ℓ} : {A : Type ℓ} (l : List A) (i : ℕ) (d : A) → i < length l → drop i l ≡ get_or l i d ∷ drop (i + 1) l
+drop_step {A} l i d h = drop-cons l i d h ∙ ap (λ (k : ℕ). get_or l i d ∷ drop k l) (sym (add-one i))
 
 -- a list that is copied entry by entry
 module _ {ℓ} {A : Type ℓ} (xs : List A) (i : ℕ) {whole out₀ out : List A} {n : ℕ} where
   pub fill_entry : (d : A) → i < length xs → Filling whole (drop i xs) out₀ out n → Filling whole (drop (i + 1) xs) out₀ (set out n (get_or xs i d)) (n + 1)
-  fill_entry d h f = fill_push (rw (drop-step xs i d h) at f)
+  fill_entry d h f = fill_push (rw (drop_step xs i d h) at f)
 
   pub fill_over : length xs ≤ i → Filling whole (drop i xs) out₀ out n → Listed whole out₀ out n
   fill_over h f = fill_end (rw (drop_of_length-le xs h) at f)
@@ -139,28 +139,28 @@ module _ {ℓ} {A : Type ℓ} (xs : List A) (i : ℕ) {whole out₀ out : List A
 -- and one whose entries are each changed alike
 module _ {ℓ κ} {A : Type ℓ} {B : Type κ} (g : A → B) (xs : List A) (i : ℕ) {whole out₀ out : List B} {n : ℕ} where
   pub fill_map : (d : A) → i < length xs → Filling whole (map g (drop i xs)) out₀ out n → Filling whole (map g (drop (i + 1) xs)) out₀ (set out n (g (get_or xs i d))) (n + 1)
-  fill_map d h f = fill_push (rw (drop-step xs i d h) at f)
+  fill_map d h f = fill_push (rw (drop_step xs i d h) at f)
 
   pub fill_map_over : length xs ≤ i → Filling whole (map g (drop i xs)) out₀ out n → Listed whole out₀ out n
   fill_map_over h f = fill_end (rw (drop_of_length-le xs h) at f)
 
-pub filter-step {ℓ} : {A : Type ℓ} (p : A → Bool) (l : List A) (i : ℕ) (d : A) → i < length l → filter p (drop i l) ≡ consIf (p (get_or l i d)) (get_or l i d) (filter p (drop (i + 1) l))
+pub filter_step {ℓ} : {A : Type ℓ} (p : A → Bool) (l : List A) (i : ℕ) (d : A) → i < length l → filter p (drop i l) ≡ cons_if (p (get_or l i d)) (get_or l i d) (filter p (drop (i + 1) l))
 unfolding filter
-filter-step p l i d h = rw (drop-step l i d h)
+filter_step p l i d h = rw (drop_step l i d h)
 
-pub filter-over {ℓ} : {A : Type ℓ} (p : A → Bool) (l : List A) (i : ℕ) → length l ≤ i → filter p (drop i l) ≡ []
+pub filter_over {ℓ} : {A : Type ℓ} (p : A → Bool) (l : List A) (i : ℕ) → length l ≤ i → filter p (drop i l) ≡ []
 unfolding filter
-filter-over p l i h = rw (drop_of_length-le l h)
+filter_over p l i h = rw (drop_of_length-le l h)
 
 module _ {ℓ} {A : Type ℓ} (t : A → Bool) (xs : List A) (i : ℕ) (d : A) (h : i < length xs) where
   pub sift_yes : {whole out₀ out : List A} {n : ℕ} → t (get_or xs i d) ≡ true → Filling whole (filter t (drop i xs)) out₀ out n → Filling whole (get_or xs i d ∷ filter t (drop (i + 1) xs)) out₀ out n
-  sift_yes e f = rw (filter-step t xs i d h, e) at f
+  sift_yes e f = rw (filter_step t xs i d h, e) at f
 
   pub sift_no : {whole out₀ out : List A} {n : ℕ} → t (get_or xs i d) ≡ false → Filling whole (filter t (drop i xs)) out₀ out n → Filling whole (filter t (drop (i + 1) xs)) out₀ out n
-  sift_no e f = rw (filter-step t xs i d h, e) at f
+  sift_no e f = rw (filter_step t xs i d h, e) at f
 
 -- ---- the frames that pass
-pub keep_step : (t : ℕ → Bool) (i n : ℕ) → i < n → keep t i (n - i) ≡ consIf (t i) i (keep t (i + 1) (n - (i + 1)))
+pub keep_step : (t : ℕ → Bool) (i n : ℕ) → i < n → keep t i (n - i) ≡ cons_if (t i) i (keep t (i + 1) (n - (i + 1)))
 unfolding keep
 keep_step t i n h =
     let e : n - i ≡ suc (n - (i + 1)) = omega arith in
@@ -175,13 +175,13 @@ keep_over t i n h =
 pub keep_fits : (t : ℕ → Bool) (i k : ℕ) → length (keep t i k) ≤ k
 unfolding keep
 keep_fits t i zero = omega arith
-keep_fits t i (suc k) = length-consIf (t i) i (keep t (suc i) k) (keep_fits t (suc i) k)
+keep_fits t i (suc k) = length_cons_if (t i) i (keep t (suc i) k) (keep_fits t (suc i) k)
 
 -- tests that agree on the frames keep the same of them
 pub keep_same : (t u : ℕ → Bool) (i k : ℕ) → ((j : ℕ) → i ≤ j → j < i + k → t j ≡ u j) → keep t i k ≡ keep u i k
 unfolding keep
 keep_same t u i zero f = refl
-keep_same t u i (suc k) f = ap₂ (λ (b : Bool) (l : List ℕ). consIf b i l) (f i (omega arith) (omega arith)) (keep_same t u (suc i) k (λ j g h. f j (omega arith) (omega arith)))
+keep_same t u i (suc k) f = ap₂ (λ (b : Bool) (l : List ℕ). cons_if b i l) (f i (omega arith) (omega arith)) (keep_same t u (suc i) k (λ j g h. f j (omega arith) (omega arith)))
 
 -- those of a + b frames are those of the first a and those of the b after them
 pub keep_split : (t : ℕ → Bool) (i a b : ℕ) → keep t i (a + b) ≡ keep t i a ++ keep t (i + a) b
@@ -189,7 +189,7 @@ unfolding keep
 keep_split t i zero b = ap₂ (keep t) (sym (add-zero i)) (zero-add b)
 keep_split t i (suc a) b =
     let e : suc i + a ≡ i + suc a = omega arith in
-    ap (keep t i) (suc-add a b) ∙ ap (consIf (t i) i) (keep_split t (suc i) a b ∙ ap (λ (j : ℕ). keep t (suc i) a ++ keep t j b) e) ∙ cons_if_append (t i) i (keep t (suc i) a) (keep t (i + suc a) b)
+    ap (keep t i) (suc-add a b) ∙ ap (cons_if (t i) i) (keep_split t (suc i) a b ∙ ap (λ (j : ℕ). keep t (suc i) a ++ keep t j b) e) ∙ cons_if_append (t i) i (keep t (suc i) a) (keep t (i + suc a) b)
 
 -- frames that do not pass may be left out
 pub keep_pass : (t : ℕ → Bool) (i d n : ℕ) → ((j : ℕ) → i ≤ j → j < i + d → t j ≡ false) → keep t i (n - i) ≡ keep t (i + d) (n - (i + d))
@@ -205,7 +205,7 @@ keep_pass t i (suc d) n f = go (leb n i) refl (keep_pass t (i + 1) d n (λ j a b
         keep_over t i n h ∙ sym (keep_over t (i + suc d) n (omega arith))
     go false q on =
         let h : i < n = leb-false n i q in
-        keep_step t i n h ∙ ap (λ (b : Bool). consIf b i (keep t (i + 1) (n - (i + 1)))) (f i (omega arith) (omega arith)) ∙ on ∙ ap (λ (x : ℕ). keep t x (n - x)) e
+        keep_step t i n h ∙ ap (λ (b : Bool). cons_if b i (keep t (i + 1) (n - (i + 1)))) (f i (omega arith) (omega arith)) ∙ on ∙ ap (λ (x : ℕ). keep t x (n - x)) e
 
 module _ (t : ℕ → Bool) (len i : ℕ) (h : i < len) where
   pub keep_yes : {whole out₀ out : List ℕ} {n : ℕ} → t i ≡ true → Filling whole (keep t i (len - i)) out₀ out n → Filling whole (i ∷ keep t (i + 1) (len - (i + 1))) out₀ out n

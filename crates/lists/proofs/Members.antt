@@ -11,7 +11,7 @@ use mathlib.Core.Logic.{⊎_elim}
 use lib.ListN.{length, get_or, drop, drop_of_length-le}
 use lib.Dec.{leb, ltb, eqb}
 use borrow.Author.Tests.{leb-true, le-leb, ltb-true, lt-ltb, eqb-true, eqb-false, eq-eqb}
-use Rattle.lists.specs.Results.{consIf, more_if, filter, keep}
+use Rattle.lists.specs.Results.{cons_if, more_if, filter, keep}
 use Rattle.lists.specs.By.{Each}
 use Rattle.lists.specs.Sorted.{count, Rises, StrictlyRises, IsSorted}
 use Rattle.lists.specs.Marks.{member, in_order, IsInOrder, Once}
@@ -42,7 +42,7 @@ unfolding member filter
 member_filter p [] x = sym (and-false (p x))
 member_filter p (y ∷ xs) x = go (p y) (eqb y x) refl refl (member_filter p xs x)
   where
-    go : (b d : Bool) → p y ≡ b → eqb y x ≡ d → member (filter p xs) x ≡ (p x && member xs x) → member (consIf b y (filter p xs)) x ≡ (p x && (d || member xs x))
+    go : (b d : Bool) → p y ≡ b → eqb y x ≡ d → member (filter p xs) x ≡ (p x && member xs x) → member (cons_if b y (filter p xs)) x ≡ (p x && (d || member xs x))
     go true true q e r = rw (e, ← eqb-true y x e, q)
     go true false q e r = rw (e, r)
     go false true q e r = r ∙ rw (← eqb-true y x e, q)
@@ -59,7 +59,7 @@ unfolding member keep
 kept_where t i zero x e = absurd (false≢true e)
 kept_where t i (suc k) x e = go (t i) refl e (kept_where t (suc i) k x)
   where
-    go : (b : Bool) → t i ≡ b → member (consIf b i (keep t (suc i) k)) x ≡ true → (member (keep t (suc i) k) x ≡ true → (suc i ≤ x) × (x < suc i + k) × (t x ≡ true)) → (i ≤ x) × (x < i + suc k) × (t x ≡ true)
+    go : (b : Bool) → t i ≡ b → member (cons_if b i (keep t (suc i) k)) x ≡ true → (member (keep t (suc i) k) x ≡ true → (suc i ≤ x) × (x < suc i + k) × (t x ≡ true)) → (i ≤ x) × (x < i + suc k) × (t x ≡ true)
     go true q e on =
         ⊎_elim
         (λ h. let p : i ≡ x = eqb-true i x h in (omega arith, omega arith, ap t (sym p) ∙ q))
@@ -72,7 +72,7 @@ unfolding member keep
 kept_there t i zero x lo hi h = absurd (omega arith)
 kept_there t i (suc k) x lo hi h = go (t i) (eqb i x) refl refl (λ z. kept_there t (suc i) k x z (omega arith) h)
   where
-    go : (b d : Bool) → t i ≡ b → eqb i x ≡ d → (suc i ≤ x → member (keep t (suc i) k) x ≡ true) → member (consIf b i (keep t (suc i) k)) x ≡ true
+    go : (b d : Bool) → t i ≡ b → eqb i x ≡ d → (suc i ≤ x → member (keep t (suc i) k) x ≡ true) → member (cons_if b i (keep t (suc i) k)) x ≡ true
     go true true q e on = or_left (eqb i x) (member (keep t (suc i) k) x) e
     go true false q e on = or_right (eqb i x) (member (keep t (suc i) k) x) (on (let n : i ≡ x → ⊥ = eqb-false i x e in omega arith))
     go false true q e on = absurd (true≢false (sym h ∙ ap t (sym (eqb-true i x e)) ∙ q))
@@ -163,7 +163,7 @@ unfolding keep
 keep_rises t n i zero h = tt
 keep_rises t n i (suc k) h = go (t i) (keep_rises t n (suc i) k (omega arith))
   where
-    go : (b : Bool) → StrictlyRises (suc i) n (keep t (suc i) k) → StrictlyRises i n (consIf b i (keep t (suc i) k))
+    go : (b : Bool) → StrictlyRises (suc i) n (keep t (suc i) k) → StrictlyRises i n (cons_if b i (keep t (suc i) k))
     go true s = (omega arith, omega arith, strict_from (i + 1) (suc i) n (keep t (suc i) k) (omega arith) s)
     go false s = strict_from i (suc i) n (keep t (suc i) k) (omega arith) s
 
@@ -172,7 +172,7 @@ unfolding filter
 filter_rises p lo hi [] s = tt
 filter_rises p lo hi (x ∷ xs) s = go (p x) (filter_rises p (x + 1) hi xs s.2)
   where
-    go : (b : Bool) → StrictlyRises (x + 1) hi (filter p xs) → StrictlyRises lo hi (consIf b x (filter p xs))
+    go : (b : Bool) → StrictlyRises (x + 1) hi (filter p xs) → StrictlyRises lo hi (cons_if b x (filter p xs))
     go true r = (s.0, s.1, r)
     go false r = strict_from lo (x + 1) hi (filter p xs) (omega (arith, s.0)) r
 

@@ -16,14 +16,14 @@ pub record Front {ℓ} {A : Type ℓ} (res new : List A) (r : ℕ) : Type ℓ wh
   pub entries : take r new ≡ res
 
 -- one more entry in front, where b holds
-abbrev pub consIf {ℓ} : {A : Type ℓ} → Bool → A → List A → List A
-consIf true x xs = x ∷ xs
-consIf false x xs = xs
+abbrev pub cons_if {ℓ} : {A : Type ℓ} → Bool → A → List A → List A
+cons_if true x xs = x ∷ xs
+cons_if false x xs = xs
 
 -- the entries that pass, in their order
 unfoldable pub filter {ℓ} : {A : Type ℓ} → (A → Bool) → List A → List A
 filter p [] = []
-filter p (x ∷ xs) = consIf (p x) x (filter p xs)
+filter p (x ∷ xs) = cons_if (p x) x (filter p xs)
 
 -- one more, where b holds
 abbrev pub more_if : Bool → ℕ → ℕ
@@ -38,7 +38,7 @@ pub record Pushed {ℓ} {A : Type ℓ} (b : Bool) (x : A) (n : ℕ) (old new : L
 -- of the k frames from i on, those that pass
 unfoldable pub keep : (ℕ → Bool) → ℕ → ℕ → List ℕ
 keep t i zero = []
-keep t i (suc k) = consIf (t i) i (keep t (suc i) k)
+keep t i (suc k) = cons_if (t i) i (keep t (suc i) k)
 
 -- a list with another's entries in the places from a on and before b
 unfoldable pub replaced {ℓ} : {A : Type ℓ} → ℕ → ℕ → List A → List A → List A

@@ -1,10 +1,10 @@
 -- What is held of an input tells what is printed for all that came, and this is what is printed for the whole, also where no more is read past the longest file. Assumes nothing.
-use Prim.Native.Nat.{ℕ, ◌+◌, ◌≤◌, ◌<◌}
+use Prim.Native.Nat.{ℕ, ◌≤◌, ◌<◌}
 use native.Mathlib.Omega.{arith}
 use mathlib.Core.Path.{◌≡◌, sym, ap, ◌∙◌}
 use mathlib.Core.Logic.{◌⊎◌, ⊎_elim}
 use mathlib.Core.List.{List, [], ◌++◌, append-nil}
-use lib.ListN.{length, take, get_or, length-append, get_or-append}
+use lib.ListN.{length, take, drop, get_or, length-append, get_or-append}
 use lib.Seq.{take_all}
 use Rattle.take.specs.Fields.{half_at}
 use Rattle.take.specs.File.{frame_count, largest, refusal_by, file_refusal}
@@ -12,9 +12,17 @@ use Rattle.take.specs.Listing.{refused_listing}
 use Rattle.take.proofs.Agreement.{refused_past, refused_longer, refusal_kept}
 use Rattle.report.specs.Shown.{printed}
 use Rattle.report.proofs.Parts.{refused_printed}
+use Rattle.std.specs.Prelude.{Option, Some, None, IfSome}
+use Rattle.std.proofs.lemmas.List.{take-append-drop}
+use Rattle.lists.specs.Results.{Listed}
+use Rattle.lists.proofs.Fill.{relisted}
 use Rattle.input.specs.Held.{Holds, Added, pieces_joined}
+use Rattle.input.specs.Reading.{StoppedIn}
+use Rattle.input.specs.declared.Input.TheVariants.{Whole, Longer}
 use Rattle.input.proofs.Adding.{pieces_held}
-use Rattle.marks.specs.Answer.{longest}
+use Rattle.marks.specs.Answer.{longest, TextOf}
+use Rattle.marks.specs.declared.Outcome.{Outcome}
+use Rattle.marks.specs.declared.Outcome.TheVariants.{Unread, Told}
 
 -- ---- the bytes that are held
 module _ {came file : List ℕ} {total : ℕ} (h : Holds came file total) where
@@ -50,3 +58,25 @@ unread_alike came rest bytes past =
 -- ---- the whole input
 pub pieces_told : {pieces : List (List ℕ)} {file left : List ℕ} {total : ℕ} → Added pieces file 0 left total → (rest : List ℕ) → ((i : ℕ) → get_or (pieces_joined pieces ++ rest) i 0 < 256) → (rest ≡ []) ⊎ (longest < total) → printed (pieces_joined pieces) ≡ printed (pieces_joined pieces ++ rest)
 pieces_told {pieces} {total = total} a rest bytes s = ⊎_elim (λ e. ap printed (sym (ap (λ (r : List ℕ). pieces_joined pieces ++ r) e ∙ append-nil (pieces_joined pieces)))) (λ p. unread_alike (pieces_joined pieces) rest bytes (omega (arith, (pieces_held a).count))) s
+
+-- ---- an input whose bytes are known
+-- what its text answers, by what reading leaves of it
+abbrev pub Answered : Option (List ℕ) → List ℕ → List ℕ → Outcome → Type 0
+Answered o old new r = IfSome o (λ came. ((i : ℕ) → get_or came i 0 < 256) → TextOf came old new r)
+
+pub unread_answered : (o : Option (List ℕ)) (old new : List ℕ) → Answered o old new Unread
+unread_answered None old new = tt
+unread_answered (Some came) old new = λ bytes. tt
+
+module _ {file old new : List ℕ} {total n : ℕ} (tells : (came : List ℕ) → Holds came file total → Listed (printed came) old new n) where
+  pub whole_answered : (o : Option (List ℕ)) → IfSome o (λ came. StoppedIn longest came file (Whole total)) → Answered o old new (Told n)
+  whole_answered None h = tt
+  whole_answered (Some came) h = λ bytes. tells came h
+
+  pub longer_answered : (o : Option (List ℕ)) → IfSome o (λ came. StoppedIn longest came file (Longer total)) → Answered o old new (Told n)
+  longer_answered None h = tt
+  longer_answered (Some came) h =
+      let all : take total came ++ drop total came ≡ came = take-append-drop total came in
+      λ bytes. relisted
+      (unread_alike (take total came) (drop total came) (rw all bytes) (omega (arith, h.0.count, h.1)) ∙ ap printed all)
+      (tells (take total came) h.0)

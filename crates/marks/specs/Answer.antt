@@ -14,3 +14,8 @@ longest = 19 + 17 * 65535
 abbrev pub TextAnswered : List ℕ → List ℕ → Outcome → Type 0
 TextAnswered old new Unread = Unit
 TextAnswered old new (Told n) = (pieces : List (List ℕ)) × Listed (printed (pieces_joined pieces)) old new n
+
+-- what is answered where the bytes of the input are known: their text
+abbrev pub TextOf : List ℕ → List ℕ → List ℕ → Outcome → Type 0
+TextOf came old new Unread = Unit
+TextOf came old new (Told n) = Listed (printed came) old new n

@@ -1,16 +1,20 @@
 // Reads a take file on standard input and prints the listing of its marks; with the word `--version` it tells its own. An
 // input that cannot be read, or a listing that cannot be written, is told on standard error.
-ghost use Rattle.std.specs.Prelude.{◌≡◌, List, ℕ, ◌≤◌, length};
+#![tactic(auto)]
+
+ghost use Rattle.std.specs.Prelude.{◌≡◌, List, ℕ, ◌<◌, ◌≤◌, IfSome, get_or, length};
 ghost use Rattle.take.specs.File.{largest};
 ghost use Rattle.take.specs.Listing.{largest_listing};
 ghost use Rattle.input.specs.Held.{Holds};
-ghost use Rattle.input.specs.Reading.{Stopped};
+ghost use Rattle.input.specs.Reading.{Stopped, StoppedIn};
 ghost use Rattle.lists.specs.Results.{Listed};
 ghost use Rattle.report.specs.Shown.{printed};
-ghost use Rattle.marks.specs.Answer.{longest, TextAnswered};
+ghost use Rattle.marks.specs.Answer.{longest, TextAnswered, TextOf};
 
 use input::Input;
-use libc::{STDERR_FILENO, STDOUT_FILENO};
+use std::env::Env;
+use std::io;
+use std::io::Read;
 use take::file::take_refusal;
 use take::listing::refused;
 
@@ -18,7 +22,7 @@ use take::listing::refused;
 const LONGEST: usize = 1_114_114;
 
 // What became of the input: it could not be read, or its listing has so many bytes.
-#[derive(Drop)]
+#[derive(Clone, Copy)]
 pub enum Outcome {
     Unread,
     Told(usize),
@@ -39,10 +43,11 @@ fn blank_page() -> [u8; 237617]
 }
 
 // Reads the input to its end, or until it has more bytes than agree with any head.
-fn read_file(file: &mut [u8]) -> Input
-    ensures { Stopped longest file.old file.new result }
+fn read_file<R: Read>(reader: &mut R, file: &mut [u8]) -> Input
+    ensures pieces { Stopped longest file.old file.new result }
+    ensures known { IfSome (R.remaining reader.old) (λ came. StoppedIn longest came file.new result) }
 {
-    input::read_all(file, LONGEST)
+    input::read_all(reader, file, LONGEST)
 }
 
 // Writes what is printed for an input of which the file has the first bytes, and answers how many bytes that takes. One that
@@ -60,47 +65,49 @@ fn tell(file: &[u8], total: usize, page: &mut [u8]) -> usize
 }
 
 // Reads the input and writes what is printed for it. Past the longest file that does not depend on what was left unread.
-fn answer(page: &mut [u8]) -> Outcome
+fn answer<R: Read>(reader: &mut R, page: &mut [u8]) -> Outcome
     requires { largest_listing ≤ length page.old }
-    ensures { TextAnswered page.old page.new result }
+    ensures pieces { TextAnswered page.old page.new result }
+    ensures known { IfSome (R.remaining reader.old)
+        (λ came. ((i : ℕ) → get_or came i 0 < 256) → TextOf came page.old page.new result) }
 {
     let mut file = blank_file();
-    match read_file(&mut file) {
+    match read_file(reader, &mut file) {
         Input::Failed => Outcome::Unread,
         Input::Whole(total) => Outcome::Told(tell(&file, total, page)),
         Input::Longer(total) => Outcome::Told(tell(&file, total, page)),
     }
 }
 
-// Reads the input and prints what is to be printed for it.
-fn mark_input() {
+// Reads standard input and prints what is to be printed for it.
+fn mark_input(rt: &(impl io::Input + Print + Eprint)) {
     let mut page = blank_page();
-    match answer(&mut page) {
+    match answer(&mut rt.reader(), &mut page) {
         Outcome::Unread => {
-            io::write_all(STDERR_FILENO, b"marks: standard input could not be read\n");
+            let _ = rt.eprint("marks: standard input could not be read\n");
         }
         Outcome::Told(n) => {
-            if io::write_all(STDOUT_FILENO, &page[..n]) {
+            if rt.write_all(&page[..n]).is_ok() {
                 return;
             }
-            io::write_all(STDERR_FILENO, b"marks: the listing could not be written\n");
+            let _ = rt.eprint("marks: the listing could not be written\n");
         }
     }
 }
 
-// Whether the first argument is the word `--version`. One that is longer has the length 0 here.
-fn asks_for_version() -> bool {
-    let mut w = [0u8; 9];
-    let n = os::arg(1, &mut w);
-    let dashes = w[0] == b'-' && w[1] == b'-';
-    let vers = w[2] == b'v' && w[3] == b'e' && w[4] == b'r' && w[5] == b's';
-    n == 9 && dashes && vers && w[6] == b'i' && w[7] == b'o' && w[8] == b'n'
+// Whether the first argument is the word `--version`. One that is longer does not fit here.
+fn asks_for_version(rt: &impl Env) -> bool {
+    let mut word = [0u8; 9];
+    match rt.arg(1, &mut word) {
+        Ok(n) => &word[..n] == b"--version".as_slice(),
+        Err(_) => false,
+    }
 }
 
-fn main() {
-    if asks_for_version() {
-        io::write_all(STDOUT_FILENO, b"kiddwyr 6.0.0\n");
+fn main(rt: HostRuntime) {
+    if asks_for_version(&rt) {
+        let _ = rt.write_all(b"kiddwyr 6.0.0\n");
         return;
     }
-    mark_input();
+    mark_input(&rt);
 }

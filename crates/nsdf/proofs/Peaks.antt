@@ -8,7 +8,7 @@ use mathlib.Core.List.{List, map}
 use lib.IntN.{ℤ}
 use lib.ListN.{length, drop, set}
 use lib.Ieee.{Float, nan, inf}
-use Rattle.lists.specs.Results.{keep, consIf}
+use Rattle.lists.specs.Results.{keep, cons_if}
 use Rattle.lists.specs.By.{better, best_of}
 use Rattle.lists.proofs.Fill.{Filling, fill_start, fill_entry, fill_over, listed_all, keep_step, keep_over}
 use Rattle.lists.proofs.Tabulated.{length_tabulate, tabulate_at}
@@ -85,7 +85,7 @@ unfolding keep
 first_within t a zero k e = let z : ◌≡◌ {A = ℕ} 0 1 = cc in omega arith
 first_within t a (suc n) k e = go (t a) (first_within t (suc a) n k) e
   where
-    go : (b : Bool) → (first (keep t (suc a) n) ≡ At k → (suc a ≤ k) × (k < suc a + n)) → first (consIf b a (keep t (suc a) n)) ≡ At k → (a ≤ k) × (k < a + suc n)
+    go : (b : Bool) → (first (keep t (suc a) n) ≡ At k → (suc a ≤ k) × (k < suc a + n)) → first (cons_if b a (keep t (suc a) n)) ≡ At k → (a ≤ k) × (k < a + suc n)
     go true ih e = let z : a ≡ k = cc in omega arith
     go false ih e = let h : (suc a ≤ k) × (k < suc a + n) = ih e in omega arith
 

@@ -52,13 +52,13 @@ module _ (w : List ℤ) (lag i : ℕ) (d : ℤ) (fits : i + lag < length w) wher
 
 -- ---- the loops: what is added after i of the pairs, with what is still to come, is the whole
 
--- the products, their sum by its bits
-abbrev pub Crossed : List ℤ → ℕ → ℕ → ℕ → ℕ → Type 0
+-- the products
+abbrev pub Crossed : List ℤ → ℕ → ℕ → ℤ → ℕ → Type 0
 Crossed w lag pairs sum i =
     (i ≤ pairs)
     × (pairs + lag ≡ length w)
-    × (nat_abs (to_z w64 sum) ≤ 1073741824 * i)
-    × (to_z w64 sum +ℤ cross (drop i w) (drop (i + lag) w) ≡ cross w (drop lag w))
+    × (nat_abs sum ≤ 1073741824 * i)
+    × (sum +ℤ cross (drop i w) (drop (i + lag) w) ≡ cross w (drop lag w))
 
 -- the squares
 abbrev pub Powered : List ℤ → ℕ → ℕ → ℕ → ℕ → Type 0
@@ -69,42 +69,39 @@ Powered w lag pairs sum i =
     × (sum + power (drop i w) (drop (i + lag) w) ≡ power w (drop lag w))
 
 module _ (w : List ℤ) (lag : ℕ) (h : lag < length w) where
-  pub cross_first : Crossed w lag (length w - lag) 0 0
+  pub cross_first : Crossed w lag (length w - lag) (pos 0) 0
   cross_first = (omega arith, omega arith, omega arith, rw (zero-add lag) (+ℤ_idl _))
 
   pub power_first : Powered w lag (length w - lag) 0 0
   power_first = (omega arith, omega arith, omega arith, rw (zero-add lag) (zero-add _))
 
+-- a product reads back as itself
+pub product_back : (r : ℤ) → nat_abs r ≤ 1073741824 → to_z w64 (of_z w64 r) ≡ r
+product_back r r_small = to_z-of_z w64 r (small r (lt_of_le_of_lt r_small (lit< tt)))
+
 -- one product more still fits
-module _ (sum i : ℕ) (r : ℤ) (few : i ≤ 512) (so_far : nat_abs (to_z w64 sum) ≤ 1073741824 * i) (r_small : nat_abs r ≤ 1073741824) where
-  read : to_z w64 (of_z w64 r) ≡ r
-  read = to_z-of_z w64 r (small r (lt_of_le_of_lt r_small (lit< tt)))
+module _ (sum : ℤ) (i : ℕ) (r : ℤ) (few : i ≤ 512) (so_far : nat_abs sum ≤ 1073741824 * i) (r_small : nat_abs r ≤ 1073741824) where
+  sum_small : nat_abs (sum +ℤ r) ≤ 1073741824 * (i + 1)
+  sum_small = le_trans (abs_add sum r) (omega arith)
 
-  sum_small : nat_abs (to_z w64 sum +ℤ r) ≤ 1073741824 * (i + 1)
-  sum_small = le_trans (abs_add (to_z w64 sum) r) (omega arith)
+  pub sum_fits : SFits w64 (sum +ℤ r)
+  sum_fits = small (sum +ℤ r) (lt_of_le_of_lt sum_small (omega arith))
 
-  pub sum_fits : SFits w64 (to_z w64 sum +ℤ to_z w64 (of_z w64 r))
-  sum_fits = rw read (small (to_z w64 sum +ℤ r) (lt_of_le_of_lt sum_small (omega arith)))
-
-  sum_read : to_z w64 (of_z w64 (to_z w64 sum +ℤ to_z w64 (of_z w64 r))) ≡ to_z w64 sum +ℤ r
-  sum_read = to_z-of_z w64 _ sum_fits ∙ ap (λ (z : ℤ). to_z w64 sum +ℤ z) read
-
-module _ (w : List ℤ) (lag pairs sum i : ℕ) (short : length w ≤ 512) (more : i < pairs) where
-  pub cross_turn : Crossed w lag pairs sum i → (r : ℤ) → r ≡ get_or w i (pos 0) *ℤ get_or w (i + lag) (pos 0) → nat_abs r ≤ 1073741824
-      → Crossed w lag pairs (of_z w64 (to_z w64 sum +ℤ to_z w64 (of_z w64 r))) (i + 1)
-  cross_turn p r r-is r_small =
+module _ (w : List ℤ) (lag pairs i : ℕ) (short : length w ≤ 512) (more : i < pairs) where
+  pub cross_turn : (sum : ℤ) → Crossed w lag pairs sum i → (r : ℤ) → r ≡ get_or w i (pos 0) *ℤ get_or w (i + lag) (pos 0) → nat_abs r ≤ 1073741824
+      → Crossed w lag pairs (sum +ℤ r) (i + 1)
+  cross_turn sum p r r-is r_small =
       let few : i ≤ 512 = omega arith in
       let within : i + lag < length w = omega arith in (
         omega arith,
         p.1,
-        rw (sum_read sum i r few p.2 r_small) (sum_small sum i r few p.2 r_small),
-        rw (sum_read sum i r few p.2 r_small, r-is)
-            (+ℤ_assoc (to_z w64 sum) _ _ ∙ ap (λ (z : ℤ). to_z w64 sum +ℤ z) (sym (cross_next w lag i (pos 0) within)) ∙ p.3),
+        sum_small sum i r few p.2 r_small,
+        rw r-is (+ℤ_assoc sum _ _ ∙ ap (λ (z : ℤ). sum +ℤ z) (sym (cross_next w lag i (pos 0) within)) ∙ p.3),
       )
 
-  pub power_turn : Powered w lag pairs sum i → (s t : ℕ) → s ≡ square (get_or w i (pos 0)) → s ≤ 1073741824
+  pub power_turn : (sum : ℕ) → Powered w lag pairs sum i → (s t : ℕ) → s ≡ square (get_or w i (pos 0)) → s ≤ 1073741824
       → t ≡ square (get_or w (i + lag) (pos 0)) → t ≤ 1073741824 → Powered w lag pairs (sum + (s + t)) (i + 1)
-  power_turn p s t s-is s-small t-is t-small =
+  power_turn sum p s t s-is s-small t-is t-small =
       let within : i + lag < length w = omega arith in (
         omega arith,
         p.1,
@@ -112,14 +109,14 @@ module _ (w : List ℤ) (lag pairs sum i : ℕ) (short : length w ≤ 512) (more
         rw (s-is, t-is) (add_assoc sum _ _ ∙ ap (λ (n : ℕ). sum + n) (sym (power_next w lag i (pos 0) within)) ∙ p.3),
       )
 
-module _ (w : List ℤ) (lag pairs sum i : ℕ) (done : pairs ≤ i) where
-  pub cross_last : Crossed w lag pairs sum i → to_z w64 sum ≡ cross w (drop lag w)
-  cross_last p =
+module _ (w : List ℤ) (lag pairs i : ℕ) (done : pairs ≤ i) where
+  pub cross_last : (sum : ℤ) → Crossed w lag pairs sum i → sum ≡ cross w (drop lag w)
+  cross_last sum p =
       let all : length w ≤ i + lag = omega arith in
-      sym (+ℤ_idr (to_z w64 sum)) ∙ ap (λ (z : ℤ). to_z w64 sum +ℤ z) (sym (cross_end w (drop i w) (i + lag) all)) ∙ p.3
+      sym (+ℤ_idr sum) ∙ ap (λ (z : ℤ). sum +ℤ z) (sym (cross_end w (drop i w) (i + lag) all)) ∙ p.3
 
-  pub power_last : Powered w lag pairs sum i → sum ≡ power w (drop lag w)
-  power_last p =
+  pub power_last : (sum : ℕ) → Powered w lag pairs sum i → sum ≡ power w (drop lag w)
+  power_last sum p =
       let all : length w ≤ i + lag = omega arith in
       sym (add-zero sum) ∙ ap (λ (n : ℕ). sum + n) (sym (power_end w (drop i w) (i + lag) all)) ∙ p.3
 

@@ -18,14 +18,14 @@ const NEAR_BEST: f64 = 0.9;
 const SAMPLE_RATE: f64 = 16000.0;
 
 // A frame's pitch estimate in Hz, or none.
-#[derive(Drop)]
+#[derive(Clone, Copy)]
 pub enum Estimate {
     Nothing,
     Hz(f64),
 }
 
 // Where a peak stands among the measured lags, if there is one.
-#[derive(Drop)]
+#[derive(Clone, Copy)]
 pub enum Peak {
     Missing,
     At(usize),

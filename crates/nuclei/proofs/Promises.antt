@@ -8,7 +8,7 @@ use lib.ListN.{length}
 use lib.Dec.{leb, ltb}
 use lib.Ieee.{Float, binary32, le, add}
 use borrow.Author.Tests.{leb-true, ltb-true, ltb-false}
-use Rattle.lists.specs.Results.{consIf, filter}
+use Rattle.lists.specs.Results.{cons_if, filter}
 use Rattle.lists.specs.By.{Each}
 use Rattle.lists.specs.Sorted.{StrictlyRises}
 use Rattle.lists.specs.Marks.{member, in_order}
@@ -95,7 +95,7 @@ module _ (s pitch : List Float) (b : Bounds) (P : ℕ → Type 0) where
       unheld_each held k [] e = tt
       unheld_each held k (r ∷ rs) e = go (not (member held k)) (unheld_each held (k + 1) rs e.1)
         where
-          go : (c : Bool) → Each Q (unheld_from held (k + 1) rs) → Each Q (consIf c r (unheld_from held (k + 1) rs))
+          go : (c : Bool) → Each Q (unheld_from held (k + 1) rs) → Each Q (cons_if c r (unheld_from held (k + 1) rs))
           go true g = (e.0, g)
           go false g = g
 
@@ -103,7 +103,7 @@ module _ (s pitch : List Float) (b : Bounds) (P : ℕ → Type 0) where
       both [] e = tt
       both (u ∷ us) e = go (has_top s b dip u) refl (both us e.1)
         where
-          go : (c : Bool) → has_top s b dip u ≡ c → Each (λ r. P (top_of s b r)) (filter (has_top s b dip) us) → Each (λ r. P (top_of s b r)) (consIf c u (filter (has_top s b dip) us))
+          go : (c : Bool) → has_top s b dip u ≡ c → Each (λ r. P (top_of s b r)) (filter (has_top s b dip) us) → Each (λ r. P (top_of s b r)) (cons_if c u (filter (has_top s b dip) us))
           go true h g = (top u e.0 h, g)
           go false h g = g
 

@@ -8,9 +8,9 @@ use lib.ListN.{length, get_or, take, drop, length-map, length-append, take-appen
 use lib.Seq.{length-take-le}
 use lib.Ieee.{Float}
 use borrow.Author.Tests.{lt-ltb, le-ltb}
-use Rattle.lists.specs.Results.{consIf, filter}
+use Rattle.lists.specs.Results.{cons_if, filter}
 use Rattle.lists.specs.Marks.{member}
-use Rattle.lists.proofs.Fill.{Filling, drop-step, map-consIf, filter-step, filter-over, filter-le, length-consIf}
+use Rattle.lists.proofs.Fill.{Filling, drop_step, map_cons_if, filter_step, filter_over, filter_le, length_cons_if}
 use Rattle.smooth.specs.Extrema.{argmax_middle}
 use Rattle.smooth.specs.declared.extrema.Extremum.TheVariants.{Max}
 use Rattle.smooth.proofs.Best.{middle_within}
@@ -23,7 +23,7 @@ use Rattle.nuclei.specs.Tops.{runs_held, unheld_from, part_first, part_end, top_
 
 -- what passes, each as something else, is no more than there is
 picked_few : {A B : Type 0} (g : A → B) (p : A → Bool) (xs : List A) → length (map g (filter p xs)) ≤ length xs
-picked_few g p xs = rw length-map (filter-le p xs)
+picked_few g p xs = rw length-map (filter_le p xs)
 
 -- ---- the voiced peaks, each on its run
 module _ (s pitch : List Float) (b : Bounds) (rs : List Span) (ps : List ℕ) where
@@ -31,13 +31,13 @@ module _ (s pitch : List Float) (b : Bounds) (rs : List Span) (ps : List ℕ) wh
   unfolding peaks_onto
   onto_few = picked_few (onto_run s b rs) (voiced_peak s pitch b) ps
 
-  pub onto_step : (i : ℕ) → i < length ps → peaks_onto s pitch b rs (drop i ps) ≡ consIf (voiced_peak s pitch b (get_or ps i 0)) (onto_run s b rs (get_or ps i 0)) (peaks_onto s pitch b rs (drop (i + 1) ps))
+  pub onto_step : (i : ℕ) → i < length ps → peaks_onto s pitch b rs (drop i ps) ≡ cons_if (voiced_peak s pitch b (get_or ps i 0)) (onto_run s b rs (get_or ps i 0)) (peaks_onto s pitch b rs (drop (i + 1) ps))
   unfolding peaks_onto
-  onto_step i h = ap (map (onto_run s b rs)) (filter-step (voiced_peak s pitch b) ps i 0 h) ∙ map-consIf (onto_run s b rs) (voiced_peak s pitch b (get_or ps i 0)) (get_or ps i 0) (filter (voiced_peak s pitch b) (drop (i + 1) ps))
+  onto_step i h = ap (map (onto_run s b rs)) (filter_step (voiced_peak s pitch b) ps i 0 h) ∙ map_cons_if (onto_run s b rs) (voiced_peak s pitch b (get_or ps i 0)) (get_or ps i 0) (filter (voiced_peak s pitch b) (drop (i + 1) ps))
 
   pub onto_over : (i : ℕ) → length ps ≤ i → peaks_onto s pitch b rs (drop i ps) ≡ []
   unfolding peaks_onto
-  onto_over i h = ap (map (onto_run s b rs)) (filter-over (voiced_peak s pitch b) ps i h)
+  onto_over i h = ap (map (onto_run s b rs)) (filter_over (voiced_peak s pitch b) ps i h)
 
 -- ---- the runs that frames belong to
 module _ (rs : List Span) (xs : List ℕ) where
@@ -45,11 +45,11 @@ module _ (rs : List Span) (xs : List ℕ) where
   unfolding runs_held
   held_few = omega (arith, picked_few number_of found (map (run_of rs) xs), length-map xs (run_of rs))
 
-  pub held_step : (i : ℕ) → i < length xs → runs_held rs (drop i xs) ≡ consIf (found (run_of rs (get_or xs i 0))) (number_of (run_of rs (get_or xs i 0))) (runs_held rs (drop (i + 1) xs))
+  pub held_step : (i : ℕ) → i < length xs → runs_held rs (drop i xs) ≡ cons_if (found (run_of rs (get_or xs i 0))) (number_of (run_of rs (get_or xs i 0))) (runs_held rs (drop (i + 1) xs))
   unfolding runs_held filter
   held_step i h =
       let x = run_of rs (get_or xs i 0) in
-      rw (drop-step xs i 0 h) (map-consIf number_of (found x) x (filter found (map (run_of rs) (drop (i + 1) xs))))
+      rw (drop_step xs i 0 h) (map_cons_if number_of (found x) x (filter found (map (run_of rs) (drop (i + 1) xs))))
 
   pub held_over : (i : ℕ) → length xs ≤ i → runs_held rs (drop i xs) ≡ []
   unfolding runs_held filter
@@ -59,7 +59,7 @@ module _ (rs : List Span) (xs : List ℕ) where
 unheld_few : (held : List ℕ) (k : ℕ) (rs : List Span) → length (unheld_from held k rs) ≤ length rs
 unfolding unheld_from
 unheld_few held k [] = omega arith
-unheld_few held k (r ∷ rs) = length-consIf (not (member held k)) r (unheld_from held (k + 1) rs) (unheld_few held (k + 1) rs)
+unheld_few held k (r ∷ rs) = length_cons_if (not (member held k)) r (unheld_from held (k + 1) rs) (unheld_few held (k + 1) rs)
 
 module _ (s : List Float) (b : Bounds) (dip : Float) (held fs ls : List ℕ) where
   -- the tops to come from run k on
@@ -75,11 +75,11 @@ module _ (s : List Float) (b : Bounds) (dip : Float) (held fs ls : List ℕ) whe
     unfolding unheld_from
     come_held e = rw (spans_step fs ls k h i, unheld_from, e)
 
-    pub come_unheld : member held k ≡ false → to_come k ≡ consIf (has_top s b dip (run_at fs ls k)) (top_of s b (run_at fs ls k)) (to_come (k + 1))
+    pub come_unheld : member held k ≡ false → to_come k ≡ cons_if (has_top s b dip (run_at fs ls k)) (top_of s b (run_at fs ls k)) (to_come (k + 1))
     unfolding unheld_from tops_of filter
     come_unheld e =
         let r = run_at fs ls k in
-        rw (spans_step fs ls k h i, unheld_from, e) (map-consIf (top_of s b) (has_top s b dip r) r (filter (has_top s b dip) (unheld_from held (k + 1) (spans_from fs ls (k + 1)))))
+        rw (spans_step fs ls k h i, unheld_from, e) (map_cons_if (top_of s b) (has_top s b dip r) r (filter (has_top s b dip) (unheld_from held (k + 1) (spans_from fs ls (k + 1)))))
 
   pub come_over : (k : ℕ) → length fs ≤ k → to_come k ≡ []
   unfolding unheld_from tops_of filter

@@ -10,7 +10,7 @@ use lib.Seq.{get_or-append_seam}
 use lib.Dec.{leb, ltb}
 use lib.Ieee.{Float}
 use borrow.Author.Tests.{leb-true, leb-false, ltb-true, ne_eqb}
-use Rattle.lists.specs.Results.{consIf, filter}
+use Rattle.lists.specs.Results.{cons_if, filter}
 use Rattle.lists.specs.By.{Each}
 use Rattle.lists.specs.Marks.{member}
 use Rattle.lists.proofs.Tests.{and_cases}
@@ -59,7 +59,7 @@ module _ (s : List Float) (b : Bounds) (dip : Float) (w : b.end ≤ length s) (r
   unfolding runs_held filter
   frame_low done q later t e z = go (run_of rs t) (run_of_answers t rs)
     where
-      go : (f : Found) → Answers t rs f → Each (λ j. j < length done + 1) (map number_of (consIf (found f) f []))
+      go : (f : Found) → Answers t rs f → Each (λ j. j < length done + 1) (map number_of (cons_if (found f) f []))
       go Nothing a = tt
       go (At k first last) a = (side (leb k (length done)) refl, tt)
         where
@@ -83,7 +83,7 @@ module _ (s : List Float) (b : Bounds) (dip : Float) (w : b.end ≤ length s) (r
   unfolding tops_of filter runs_held
   tops_low done q later e = go (has_top s b dip q) refl
     where
-      go : (c : Bool) → has_top s b dip q ≡ c → Each (λ j. j < length done + 1) (runs_held rs (map (top_of s b) (consIf c q [])))
+      go : (c : Bool) → has_top s b dip q ≡ c → Each (λ j. j < length done + 1) (runs_held rs (map (top_of s b) (cons_if c q [])))
       go true h = frame_low done q later (top_of s b q) e (top_inside q h)
       go false h = tt
 
@@ -91,7 +91,7 @@ module _ (s : List Float) (b : Bounds) (dip : Float) (w : b.end ≤ length s) (r
   unfolding tops_of filter
   tops_cons q us = go (has_top s b dip q)
     where
-      go : (c : Bool) → map (top_of s b) (consIf c q []) ++ tops_of s b dip us ≡ map (top_of s b) (consIf c q (filter (has_top s b dip) us))
+      go : (c : Bool) → map (top_of s b) (cons_if c q []) ++ tops_of s b dip us ≡ map (top_of s b) (cons_if c q (filter (has_top s b dip) us))
       go true = refl
       go false = refl
 
@@ -116,7 +116,7 @@ module _ (s : List Float) (b : Bounds) (dip : Float) (w : b.end ≤ length s) (r
         higher = each_map (λ j. j < length done) (λ j. j < length done + 1) (λ j h. omega arith) (runs_held rs ts) l
 
         go : (c : Bool) → member (runs_held rs peaks) (length done) ≡ c → ((us : List ℕ) → Each (λ j. j < length done + 1) (runs_held rs us) → T us (length done + 1)) →
-            add_tops s b dip rs (length done + 1) qs (add_top s b dip rs (length done) q (peaks ++ ts)) ≡ peaks ++ (ts ++ tops_of s b dip (consIf (not (member (runs_held rs peaks) (length done))) q (unheld_from (runs_held rs peaks) (length done + 1) qs)))
+            add_tops s b dip rs (length done + 1) qs (add_top s b dip rs (length done) q (peaks ++ ts)) ≡ peaks ++ (ts ++ tops_of s b dip (cons_if (not (member (runs_held rs peaks) (length done))) q (unheld_from (runs_held rs peaks) (length done + 1) qs)))
         go true h next = rw (held_so_far, h) (next ts higher)
         go false h next =
             let tq = tops_of s b dip (q ∷ []) in

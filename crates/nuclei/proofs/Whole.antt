@@ -60,5 +60,5 @@ module _ (db old : List Float) {new : List Float} (e : new ≡ overlay (levels d
   level_take = listed_take (record { count = sym (length_levels db); entries = e })
 
 -- ---- no nuclei
-pub listed-nothing {ℓ} : {A : Type ℓ} (old : List A) → Listed [] old old 0
-listed-nothing old = fill_end (fill_start [] old (omega arith))
+pub listed_nothing {ℓ} : {A : Type ℓ} (old : List A) → Listed [] old old 0
+listed_nothing old = fill_end (fill_start [] old (omega arith))

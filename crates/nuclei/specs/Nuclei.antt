@@ -35,7 +35,7 @@ strengths_of = map (λ (n : Nucleus). n.strength)
 
 -- what a call leaves that writes nuclei to two lists, and returns their count r
 abbrev pub NucleiListed : List Nucleus → List ℕ → List ℕ → List Float → List Float → ℕ → Type 0
-NucleiListed ns oldFrames frames oldStrengths strengths r = Listed (frames_of ns) oldFrames frames r × Listed (strengths_of ns) oldStrengths strengths r
+NucleiListed ns old_frames frames old_strengths strengths r = Listed (frames_of ns) old_frames frames r × Listed (strengths_of ns) old_strengths strengths r
 
 -- the voiced peaks, and the tops of the long runs to which none of them belongs
 unfoldable pub candidates : List Float → List Float → List Span → Bounds → Float → List ℕ

@@ -2,7 +2,7 @@
 use Rattle.std.specs.Prelude.{ℕ, ◌+◌, ◌-◌, min, max, Bool, ◌&&◌, not, List, [], ◌∷◌, map, length, ltb, Float}
 use Rattle.std.specs.Float.{binary32}
 use Rattle.std.specs.Float.Ieee.{lt, add}
-use Rattle.lists.specs.Results.{consIf, filter}
+use Rattle.lists.specs.Results.{cons_if, filter}
 use Rattle.lists.specs.Marks.{member}
 use Rattle.lists.specs.Frames.{at}
 use Rattle.smooth.specs.Extrema.{argmax_middle}
@@ -19,7 +19,7 @@ runs_held rs frames = map number_of (filter found (map (run_of rs) frames))
 -- of runs that are numbered from k on, those whose number is not in a list
 unfoldable pub unheld_from : List ℕ → ℕ → List Span → List Span
 unheld_from held k [] = []
-unheld_from held k (r ∷ rs) = consIf (not (member held k)) r (unheld_from held (k + 1) rs)
+unheld_from held k (r ∷ rs) = cons_if (not (member held k)) r (unheld_from held (k + 1) rs)
 
 -- the runs to which none of the frames belongs
 unfoldable pub unheld : List Span → List ℕ → List Span

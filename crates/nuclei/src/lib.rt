@@ -1,4 +1,6 @@
 // Nuclei: one frame for each syllable, with its level over the floor.
+#![tactic(auto)]
+
 pub mod merging;
 pub mod peaks;
 pub mod tops;

@@ -1,3 +1,5 @@
 // Exact comparisons of powers of pitches.
+#![tactic(auto)]
+
 pub mod limbs;
 pub mod pitch;

@@ -1,5 +1,7 @@
 // Pitches that the tracker left out, recovered from the samples in two steps: an estimate for each frame that is tried, then
 // the track from the estimates, which reads no samples.
+#![tactic(auto)]
+
 pub mod estimates;
 pub mod stretches;
 

@@ -72,6 +72,7 @@ fn three_before(s: usize) -> usize
 
 // Whether the stretch from s to before e is recovered: it has 3 frames or more, and neither the 3 before it nor the 3
 // after it have a pitch.
+#[tactic(auto, using(crate::proofs::Alone::island_short))]
 fn is_island(given: &[f32], s: usize, e: usize) -> bool
     requires s_le_e { s ≤ e }
     requires e_bound { e ≤ 2048 }

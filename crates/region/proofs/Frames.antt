@@ -1,6 +1,6 @@
 -- The frames that pass a test, walked from either end: the first and the last. Assumes nothing.
 use Rattle.std.proofs.Common.{◌≡◌, ℕ, ◌+◌, ◌-◌, ◌<◌, Bool, true, false, List, [], ◌∷◌, ◌++◌, get_or, refl, ap, ◌∙◌, append-nil, zero-add, arith}
-use Rattle.lists.specs.Results.{consIf, keep}
+use Rattle.lists.specs.Results.{cons_if, keep}
 use Rattle.lists.proofs.Fill.{keep_step, keep_split}
 use Rattle.region.specs.Speech.{last_of}
 
@@ -16,9 +16,9 @@ module _ (t : ℕ → Bool) (n i : ℕ) where
   first_later h e = keep_step t i n h ∙ rw e
 
 -- ---- from the end
-keep_last : (t : ℕ → Bool) (i : ℕ) → keep t 0 (i + 1) ≡ keep t 0 i ++ consIf (t i) i []
+keep_last : (t : ℕ → Bool) (i : ℕ) → keep t 0 (i + 1) ≡ keep t 0 i ++ cons_if (t i) i []
 unfolding keep
-keep_last t i = keep_split t 0 i 1 ∙ ap (λ (j : ℕ). keep t 0 i ++ consIf (t j) j []) (zero-add i)
+keep_last t i = keep_split t 0 i 1 ∙ ap (λ (j : ℕ). keep t 0 i ++ cons_if (t j) j []) (zero-add i)
 
 last_more : (z : ℕ) (l : List ℕ) (x : ℕ) → last_of z (l ++ (x ∷ [])) ≡ x
 last_more z [] x = refl

@@ -7,7 +7,7 @@ use lib.Ieee.{Float, nan, binary32, fits}
 use lib.Ieee.Scale.{finite}
 use Rattle.floats.specs.Total.{total_key, finite_key, value_of, not_after}
 use Rattle.floats.proofs.Order.{finite_before}
-use Rattle.lists.specs.Results.{more_if, consIf, filter}
+use Rattle.lists.specs.Results.{more_if, cons_if, filter}
 use Rattle.lists.specs.By.{Each, sort_by}
 use Rattle.lists.specs.Sorted.{Low, insert, sorted}
 use Rattle.lists.proofs.Entries.{each_both, each_filter, each_kept, each_of_map}
@@ -41,7 +41,7 @@ finite_first (x ∷ db) h = go (finite x) refl (finite_first db h.1)
     front : List ℕ
     front = sorted (map total_key (filter finite db))
 
-    go : (b : Bool) → finite x ≡ b → Begins (sorted (map finite_key db)) front → Begins (insert (cond b (total_key x) 4294967295) (sorted (map finite_key db))) (sorted (map total_key (consIf b x (filter finite db))))
+    go : (b : Bool) → finite x ≡ b → Begins (sorted (map finite_key db)) front → Begins (insert (cond b (total_key x) 4294967295) (sorted (map finite_key db))) (sorted (map total_key (cons_if b x (filter finite db))))
     go true e p = record {
       rest = p.rest;
       low = p.low;
@@ -59,7 +59,7 @@ finite_count [] h = refl
 finite_count (x ∷ db) h = go (finite x) refl (finite_count db h.1)
   where
     go : (b : Bool) → finite x ≡ b → at_most 4294967294 (map finite_key db) ≡ length (filter finite db)
-        → more_if (leb (cond b (total_key x) 4294967295) 4294967294) (at_most 4294967294 (map finite_key db)) ≡ length (consIf b x (filter finite db))
+        → more_if (leb (cond b (total_key x) 4294967295) 4294967294) (at_most 4294967294 (map finite_key db)) ≡ length (cons_if b x (filter finite db))
     go true e r = rw (le-leb (total_key x) 4294967294 (omega (arith, finite_before x h.0 e))) (omega (arith, r))
     go false e r = r
 

@@ -1,4 +1,6 @@
 // Where a take holds speech: its floor, the threshold over it, the speech frames and the region that they span.
+#![tactic(auto)]
+
 ghost use Rattle.std.specs.Prelude.{◌≡◌, ◌+◌, ◌<◌, ◌≤◌, min, map, length, take, if◌then◌else◌, slice_index};
 ghost use Rattle.floats.specs.Total.{finite_key, value_of};
 ghost use Rattle.lists.specs.Results.{overlay};
@@ -13,7 +15,7 @@ const MIN_SPEECH_FRAMES: u32 = 5;
 // What a call may set: margin is how far over the floor speech lies, in dB; dip is how far the level must fall
 // between two nuclei, in dB; gap is how many frames apart two nuclei are at least.
 #[repr(C)]
-#[derive(Drop)]
+#[derive(Clone, Copy)]
 pub struct Settings {
     pub margin: f32,
     pub dip: f32,
@@ -43,21 +45,21 @@ pub fn classic_settings() -> Settings
 }
 
 // The quiet level of a track in dB, or that it has none.
-#[derive(Drop)]
+#[derive(Clone, Copy)]
 pub enum Floor {
     Nothing,
     At(f32),
 }
 
 // From the first frame to one past the last, or that there is no speech region.
-#[derive(Drop)]
+#[derive(Clone, Copy)]
 pub enum Region {
     Nowhere,
     Span(u32, u32),
 }
 
 // Where nuclei, extras and boundaries are looked for: in the region start..end, over the speech threshold.
-#[derive(Drop)]
+#[derive(Clone, Copy)]
 pub struct Bounds {
     pub threshold: f32,
     pub start: usize,

@@ -13,7 +13,7 @@ use lib.Ieee.{Float, ne}
 use borrow.Author.Tests.{leb-true, lt-leb}
 use Rattle.floats.specs.Plain.{zero_f}
 use Rattle.floats.proofs.Less.{le_or_lt}
-use Rattle.lists.specs.Results.{consIf, keep, filter}
+use Rattle.lists.specs.Results.{cons_if, keep, filter}
 use Rattle.lists.specs.By.{Each}
 use Rattle.lists.specs.Frames.{at}
 use Rattle.lists.specs.Grouped.{attach, grouped}
@@ -167,7 +167,7 @@ module _ (p q : List Float) (same : length q ≡ length p)
       l = omega arith
 
       go : (a b : Bool) → voiced p i ≡ a → voiced q i ≡ b → Among p q (suc i) (runs p) (runs q)
-          → Among p q i (grouped close joined (map sole (consIf a i (keep (voiced p) (suc i) k)))) (grouped close joined (map sole (consIf b i (keep (voiced q) (suc i) k))))
+          → Among p q i (grouped close joined (map sole (cons_if a i (keep (voiced p) (suc i) k)))) (grouped close joined (map sole (cons_if b i (keep (voiced q) (suc i) k))))
       go true true v w a = put_both i l v a
       go true false v w a = absurd (true≢false (sym v ∙ sym (alike p q i (stays i l v i l (omega arith) (omega arith))) ∙ w))
       go false true v w a = put_added i l v w a
@@ -194,13 +194,13 @@ module _ (p q : List Float) (same : length q ≡ length p)
     among_same (kept {r = r} {ps = ps} {qs = qs} s l a) = go (long r) (among_same a)
       where
         go : (b : Bool) → repaired_among q (map span (filter long qs)) i ≡ repaired_among p (map span (filter long ps)) i
-            → repaired_among q (map span (consIf b r (filter long qs))) i ≡ repaired_among p (map span (consIf b r (filter long ps))) i
+            → repaired_among q (map span (cons_if b r (filter long qs))) i ≡ repaired_among p (map span (cons_if b r (filter long ps))) i
         go true e = rw (frames_same p q r s, repaired_same p q r s i as_it_was, e)
         go false e = e
     among_same (added {r = r} {ps = ps} {qs = qs} c l a) = go (long r) (among_same a)
       where
         go : (b : Bool) → repaired_among q (map span (filter long qs)) i ≡ repaired_among p (map span (filter long ps)) i
-            → repaired_among q (map span (consIf b r (filter long qs))) i ≡ repaired_among p (map span (filter long ps)) i
+            → repaired_among q (map span (cons_if b r (filter long qs))) i ≡ repaired_among p (map span (filter long ps)) i
         go true e = rw (not_in_clear r c) e
         go false e = e
 

@@ -7,7 +7,7 @@ use mathlib.Core.List.{List, [], ◌∷◌, ◌++◌, map}
 use lib.ListN.{length, length-append}
 use lib.Ieee.{Float}
 use borrow.Author.Tests.{leb-true}
-use Rattle.lists.specs.Results.{consIf, filter, keep}
+use Rattle.lists.specs.Results.{cons_if, filter, keep}
 use Rattle.lists.specs.By.{Each}
 use Rattle.lists.proofs.Entries.{each_both, each_filter, each_kept, each_of_map}
 use Rattle.lists.proofs.Fill.{keep_split}
@@ -79,7 +79,7 @@ module _ (t : ℕ → Bool) where
           pick false = ((sole_sized i e, s), (omega arith, omega arith, begun))
 
       go : (b : Bool) → t i ≡ b → Each Sized runs × Begins (suc i) runs
-          → Each Sized (grouped close joined (map sole (consIf b i (keep t (suc i) k)))) × Begins i (grouped close joined (map sole (consIf b i (keep t (suc i) k))))
+          → Each Sized (grouped close joined (map sole (cons_if b i (keep t (suc i) k)))) × Begins i (grouped close joined (map sole (cons_if b i (keep t (suc i) k))))
       go true e h = put e runs h.0 h.1
       go false e h = (h.0, begins_on i runs e h.1)
 

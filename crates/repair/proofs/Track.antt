@@ -13,7 +13,7 @@ use Rattle.floats.specs.Total.{total_key, value_of}
 use Rattle.floats.proofs.Order.{value_back}
 use Rattle.lists.specs.By.{Each}
 use Rattle.lists.specs.Marks.{member}
-use Rattle.lists.proofs.Fill.{drop-step}
+use Rattle.lists.proofs.Fill.{drop_step}
 use Rattle.lists.proofs.Entries.{each_map, each_of_map}
 use Rattle.lists.proofs.Parts.{take_map, drop_map}
 use Rattle.lists.proofs.Members.{strict_few, member_over}
@@ -34,7 +34,7 @@ module _ (value : ℕ → Float) (frames : List ℕ) (old : List Float) where
 
   pub write_turn : (p : ℕ) (track : List Float) (v : Float) → p < length frames → get_or frames p 0 < length track → v ≡ value (get_or frames p 0) → Writing p track → Writing (p + 1) (set track (get_or frames p 0) v)
   unfolding member
-  write_turn p track v h l e w i = turn (eqb f i) refl ∙ ap (λ (l : List ℕ). cond (member l i) (value i) (get_or track i nan)) (sym (drop-step frames p 0 h)) ∙ w i
+  write_turn p track v h l e w i = turn (eqb f i) refl ∙ ap (λ (l : List ℕ). cond (member l i) (value i) (get_or track i nan)) (sym (drop_step frames p 0 h)) ∙ w i
     where
       f : ℕ
       f = get_or frames p 0

@@ -1,4 +1,6 @@
 // What the program `marks` prints, on bytes: a take file in, its listing out.
+#![tactic(auto)]
+
 ghost use Rattle.std.specs.Prelude.{◌≡◌, ◌+◌, ◌*◌, ◌≤◌, [], length};
 ghost use Rattle.lists.specs.Results.{Listed};
 ghost use Rattle.chain.specs.Chain.{take_of, lists_of, chain_of};

@@ -13,7 +13,7 @@ use Rattle.lists.proofs.Entries.{each_map, each_all, each_append}
 use Rattle.runs.specs.declared.near.Found.{Found}
 use Rattle.runs.specs.declared.near.Found.TheVariants.{At, Nothing}
 use Rattle.runs.specs.Runs.{Span, spans}
-use Rattle.runs.specs.Near.{distance, away_by, ◌orElse◌, run_of, Answers}
+use Rattle.runs.specs.Near.{distance, away_by, ◌or_else◌, run_of, Answers}
 use Rattle.runs.proofs.Spans.{run_at, spans_from, spans_step, spans_over}
 
 -- of runs, numbered from k, the first of the nearest to a frame, if it is less than d frames away

@@ -8,7 +8,7 @@ use mathlib.Core.List.{List, [], ◌∷◌, map}
 use lib.ListN.{length, take, length-map}
 use lib.Ieee.{Float}
 use borrow.Author.Tests.{leb-false}
-use Rattle.lists.specs.Results.{consIf, filter}
+use Rattle.lists.specs.Results.{cons_if, filter}
 use Rattle.lists.specs.By.{Each}
 use Rattle.lists.specs.Sorted.{StrictlyRises}
 use Rattle.lists.proofs.Entries.{each_kept}
@@ -38,7 +38,7 @@ unfolding filter
 spaced_filter p lo n [] s = tt
 spaced_filter p lo n (r ∷ rs) s = go (p r) (spaced_filter p (r.last + 4) n rs s.3)
   where
-    go : (b : Bool) → Spaced (r.last + 4) n (map span (filter p rs)) → Spaced lo n (map span (consIf b r (filter p rs)))
+    go : (b : Bool) → Spaced (r.last + 4) n (map span (filter p rs)) → Spaced lo n (map span (cons_if b r (filter p rs)))
     go true t = (s.0, s.1, s.2, t)
     go false t = spaced_from lo (r.last + 4) n (map span (filter p rs)) (omega (arith, s.0, s.1)) t
 

@@ -6,8 +6,8 @@ use mathlib.Core.Path.{◌≡◌, refl, sym, ap, ap₂, subst, ◌∙◌}
 use mathlib.Core.Bool.{Bool, true}
 use mathlib.Core.List.{List, [], ◌∷◌}
 use lib.ListN.{length, get_or, set, take, drop, length-map, drop_of_length-le}
-use Rattle.lists.specs.Results.{Pushed, consIf}
-use Rattle.lists.proofs.Fill.{Filling, fill_start, fill_length, fill_fits, fill_push, fill-fitsIf, fill_pushed, fill_end, map-consIf, drop-step, listed_take}
+use Rattle.lists.specs.Results.{Pushed, cons_if}
+use Rattle.lists.proofs.Fill.{Filling, fill_start, fill_length, fill_fits, fill_push, fill_fits_if, fill_pushed, fill_end, map_cons_if, drop_step, listed_take}
 use Rattle.runs.specs.Runs.{Span, spans, firsts, lasts, InTrack, SpansIn, SpansListed}
 
 pub spans_of : (rs : List Span) → spans (firsts rs) (lasts rs) ≡ rs
@@ -31,7 +31,7 @@ module _ (fs ls : List ℕ) where
   module _ (k : ℕ) where
     pub spans_step : k < length fs → k < length ls → spans_from k ≡ run_at k ∷ spans_from (k + 1)
     unfolding spans
-    spans_step h i = rw (drop-step fs k 0 h, drop-step ls k 0 i)
+    spans_step h i = rw (drop_step fs k 0 h, drop_step ls k 0 i)
 
     pub spans_over : length fs ≤ k → spans_from k ≡ []
     unfolding spans
@@ -82,15 +82,15 @@ module _ {whole rest : List Span} {first₀ first last₀ last : List ℕ} {n : 
     pub spans_push : SpansFilling whole rest first₀ (set first n r.first) last₀ (set last n r.last) (n + 1)
     spans_push = record { fs = fill_push f.fs; ls = fill_push f.ls }
 
-module _ {whole : List Span} {first₀ first last₀ last : List ℕ} {n : ℕ} (b : Bool) (r : Span) (rest : List Span) (f : SpansFilling whole (consIf b r rest) first₀ first last₀ last n) where
-  maybe_firsts : Filling (firsts whole) (consIf b r.first (firsts rest)) first₀ first n
-  maybe_firsts = rw map-consIf at f.fs
+module _ {whole : List Span} {first₀ first last₀ last : List ℕ} {n : ℕ} (b : Bool) (r : Span) (rest : List Span) (f : SpansFilling whole (cons_if b r rest) first₀ first last₀ last n) where
+  maybe_firsts : Filling (firsts whole) (cons_if b r.first (firsts rest)) first₀ first n
+  maybe_firsts = rw map_cons_if at f.fs
 
-  maybe_lasts : Filling (lasts whole) (consIf b r.last (lasts rest)) last₀ last n
-  maybe_lasts = rw map-consIf at f.ls
+  maybe_lasts : Filling (lasts whole) (cons_if b r.last (lasts rest)) last₀ last n
+  maybe_lasts = rw map_cons_if at f.ls
 
   pub spans_fit_if : b ≡ true → (n < length first) × (n < length last)
-  spans_fit_if t = (fill-fitsIf b r.first _ t maybe_firsts, fill-fitsIf b r.last _ t maybe_lasts)
+  spans_fit_if t = (fill_fits_if b r.first _ t maybe_firsts, fill_fits_if b r.last _ t maybe_lasts)
 
   pub spans_pushed : {first' last' : List ℕ} {n' : ℕ} → Pushed b r.first n first first' n' × Pushed b r.last n last last' n' → SpansFilling whole rest first₀ first' last₀ last' n'
   spans_pushed p = record { fs = fill_pushed b r.first maybe_firsts p.0; ls = fill_pushed b r.last maybe_lasts p.1 }

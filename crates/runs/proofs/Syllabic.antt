@@ -3,13 +3,13 @@
 -- Assumes nothing.
 use Prim.Native.Nat.{ℕ, suc, ◌+◌, ◌-◌, ◌≤◌, ◌<◌}
 use native.Mathlib.Omega.{arith}
-use mathlib.Core.Path.{◌≡◌, refl, sym, ap, ◌∙◌}
+use mathlib.Core.Path.{◌≡◌, refl, sym, ap, subst, ◌∙◌}
 use mathlib.Core.Bool.{Bool, true, false, not, cond}
 use mathlib.Core.List.{List, [], ◌∷◌}
 use mathlib.Core.Logic.{inl, inr}
 use lib.ListN.{length, get_or, set, drop, length-drop}
 use lib.Ieee.{Float}
-use Rattle.lists.specs.Results.{consIf, filter}
+use Rattle.lists.specs.Results.{cons_if, filter}
 use Rattle.lists.specs.By.{Each, Some}
 use Rattle.lists.proofs.Entries.{each_map}
 use Rattle.lists.specs.Grouped.{attach, grouped, Unions}
@@ -42,7 +42,7 @@ module _ (pitch : List Float) where
     where
       go : (b : Bool) → breaks_from pitch r.last s.first ≡ b → length (syllables_of pitch (s ∷ rs)) + length (dropouts_of pitch (s ∷ rs)) ≡ suc (length rs) →
           length (syllables_of pitch (across r s ∷ rs)) + length (dropouts_of pitch (across r s ∷ rs)) ≡ suc (length rs) →
-          length (attach (unbroken pitch) across r (syllables_of pitch (s ∷ rs))) + length (consIf (not b) (gap r s) (dropouts_of pitch (s ∷ rs))) ≡ suc (suc (length rs))
+          length (attach (unbroken pitch) across r (syllables_of pitch (s ∷ rs))) + length (cons_if (not b) (gap r s) (dropouts_of pitch (s ∷ rs))) ≡ suc (suc (length rs))
       go true e apart one =
           let a = ap length (attach_cut (unbroken pitch) across spans_join r s rs (rw e)) in
           omega (arith, a, apart)
@@ -86,13 +86,13 @@ module _ (pitch : List Float) where
 
       go : (b : Bool) → breaks_from pitch r.last q.first ≡ b → Each (λ g. Some (Around g) (syllables_of pitch (q ∷ rs))) (dropouts_of pitch (q ∷ rs)) →
           Each (λ g. Some (Around g) (syllables_of pitch (across r q ∷ rs))) (dropouts_of pitch (across r q ∷ rs)) →
-          Each (λ g. Some (Around g) (attach (unbroken pitch) across r (syllables_of pitch (q ∷ rs)))) (consIf (not b) (gap r q) (dropouts_of pitch (q ∷ rs)))
+          Each (λ g. Some (Around g) (attach (unbroken pitch) across r (syllables_of pitch (q ∷ rs)))) (cons_if (not b) (gap r q) (dropouts_of pitch (q ∷ rs)))
       go true e apart one =
           rw (attach_cut (unbroken pitch) across spans_join r q rs (rw e))
           (each_map (λ g. Some (Around g) (syllables_of pitch (q ∷ rs))) (λ g. Some (Around g) (r ∷ syllables_of pitch (q ∷ rs))) (λ g h. inr h) (dropouts_of pitch (q ∷ rs)) apart)
       go false e apart one =
-          rw (attach_join (unbroken pitch) across spans_join r q rs (rw e))
-          (around_first lo n (across r q) rs (gap r q) one_spaced (s.1, s.3.1), rw (same_gaps r q rs) at one)
+          subst (λ (ss : List Span). Each (λ g. Some (Around g) ss) (gap r q ∷ dropouts_of pitch (q ∷ rs))) (sym (attach_join (unbroken pitch) across spans_join r q rs (rw e)))
+          (around_first lo n (across r q) rs (gap r q) one_spaced (s.1, s.3.1), subst (λ (gs : List Span). Each (λ g. Some (Around g) (syllables_of pitch (across r q ∷ rs))) gs) (same_gaps r q rs) one)
 
   pub dropout_inside : Each (λ g. Some (λ s. (s.first ≤ g.first) × (g.last ≤ s.last)) (syllable_runs pitch)) (dropouts pitch)
   unfolding syllable_runs dropouts dropouts_of gaps filter
@@ -196,7 +196,7 @@ module _ (pitch : List Float) where
         abbrev kept : Bool
         kept = not (breaks_from pitch (get_or ls (i - 1) 0) (get_or fs i 0))
 
-        next : i < length fs → dropouts_from (i - 1) ≡ consIf kept (gap_at i) (dropouts_from i)
+        next : i < length fs → dropouts_from (i - 1) ≡ cons_if kept (gap_at i) (dropouts_from i)
         unfolding dropouts_of gaps filter
         next h =
             let e : i - 1 + 1 ≡ i = omega (arith, g.past) in

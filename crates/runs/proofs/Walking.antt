@@ -12,9 +12,9 @@ use lib.Bits.{bit_or}
 use lib.Dec.{ltb}
 use borrow.Author.Tests.{le-leb, lt-leb, ltb-true, ltb-false}
 use Rattle.floats.specs.Plain.{zero_f}
-use Rattle.lists.specs.Results.{Pushed, consIf, more_if, filter}
+use Rattle.lists.specs.Results.{Pushed, cons_if, more_if, filter}
 use Rattle.lists.specs.Sorted.{StrictlyRises}
-use Rattle.lists.proofs.Fill.{Filling, fill_start, fill_push, fill_fits, fill_end, map-consIf, keep_step, keep_over}
+use Rattle.lists.proofs.Fill.{Filling, fill_start, fill_push, fill_fits, fill_end, map_cons_if, keep_step, keep_over}
 use Rattle.lists.proofs.Members.{keep_rises}
 use Rattle.lists.proofs.Counting.{neither}
 use Rattle.runs.specs.declared.voiced.Run.{Run}
@@ -182,9 +182,9 @@ module _ (pitch : List Float) where
             record { within = v.within; here = v.here; ends = rw s at (spans_push ends_now); sizes = rw s at (fill_push sizes_now) }
 
       module _ {first last : List ℕ} {n : ℕ} (g : RunningLong first last n i) where
-        ends_next : SpansFilling (long_runs pitch) (consIf (long run) (span run) (map span (filter long (runs_from pitch (run.last + 1))))) first₀ first last₀ last n
+        ends_next : SpansFilling (long_runs pitch) (cons_if (long run) (span run) (map span (filter long (runs_from pitch (run.last + 1))))) first₀ first last₀ last n
         unfolding filter
-        ends_next = simp (e, map-consIf) at g.ends
+        ends_next = simp (e, map_cons_if) at g.ends
 
         pub running_long_room : long run ≡ true → (n < length first) × (n < length last)
         running_long_room = spans_fit_if (long run) (span run) _ ends_next

@@ -15,8 +15,8 @@ away_by d at k [] = Nothing
 away_by d at k (r ∷ rs) = cond (eqb (distance r at) d) (At k r.first r.last) (away_by d at (k + 1) rs)
 
 -- what is found first, or else what is found second
-infixl 40 ◌orElse◌
-abbrev pub ◌orElse◌ : Found → Found → Found
+infixl 40 ◌or_else◌
+abbrev pub ◌or_else◌ : Found → Found → Found
 At k first last or_else other = At k first last
 Nothing or_else other = other
 

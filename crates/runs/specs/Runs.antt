@@ -90,8 +90,8 @@ RoomOfTwo track xs ys = (length track ≤ 2048) × (length track ≤ length xs) 
 
 -- what a call leaves that writes runs to two lists, and returns their count r
 abbrev pub SpansListed : List Span → List ℕ → List ℕ → List ℕ → List ℕ → ℕ → Type 0
-SpansListed rs oldFirst first oldLast last r = Listed (firsts rs) oldFirst first r × Listed (lasts rs) oldLast last r
+SpansListed rs old_first first old_last last r = Listed (firsts rs) old_first first r × Listed (lasts rs) old_last last r
 
 -- the same of voiced runs, with how many voiced frames they have
 abbrev pub RunsListed : List Run → List ℕ → List ℕ → List ℕ → List ℕ → List ℕ → List ℕ → ℕ → Type 0
-RunsListed rs oldFirst first oldLast last oldSize size r = Listed (firsts (map span rs)) oldFirst first r × Listed (lasts (map span rs)) oldLast last r × Listed (map (λ (s : Run). s.size) rs) oldSize size r
+RunsListed rs old_first first old_last last old_size size r = Listed (firsts (map span rs)) old_first first r × Listed (lasts (map span rs)) old_last last r × Listed (map (λ (s : Run). s.size) rs) old_size size r

@@ -9,7 +9,7 @@ use lists::sizes::smaller;
 pub const RADIUS: u32 = 2;
 
 // The run that a frame belongs to: its index, its first and its last frame.
-#[derive(Drop)]
+#[derive(Clone, Copy)]
 pub enum Found {
     At(u32, u32, u32),
     Nothing,

@@ -16,7 +16,7 @@ pub const MIN_RUN_FRAMES: u32 = 5;
 const BLOCK: usize = 16;
 
 // A voiced run: its first and last frame, and how many voiced frames it has.
-#[derive(Drop)]
+#[derive(Clone, Copy)]
 pub struct Run {
     pub first: u32,
     pub last: u32,

@@ -11,7 +11,7 @@ use lib.Dec.{leb, ltb}
 use lib.ListN.{length, get_or}
 use borrow.Author.Tests.{le-leb, lt-leb, lt-ltb, le-ltb}
 use Rattle.floats.proofs.Less.{le_or_lt}
-use Rattle.lists.specs.Results.{consIf, filter}
+use Rattle.lists.specs.Results.{cons_if, filter}
 use Rattle.lists.specs.By.{Each}
 use Rattle.lists.specs.Sorted.{Low, Rises, insert, sorted}
 use Rattle.lists.proofs.Entries.{each_map, each_at, each_kept}
@@ -90,13 +90,13 @@ unfolding filter
 above_insert x y [] = refl
 above_insert x y (z ∷ l) = go (leb y z) (above_insert x y l)
   where
-    swap : (a b : Bool) (m : List ℕ) → least_of (consIf a z (consIf b y m)) ≡ least_of (consIf b y (consIf a z m))
+    swap : (a b : Bool) (m : List ℕ) → least_of (cons_if a z (cons_if b y m)) ≡ least_of (cons_if b y (cons_if a z m))
     swap true true m = omega arith
     swap true false m = refl
     swap false true m = refl
     swap false false m = refl
 
-    first : (a : Bool) (m n : List ℕ) → least_of m ≡ least_of n → least_of (consIf a z m) ≡ least_of (consIf a z n)
+    first : (a : Bool) (m n : List ℕ) → least_of m ≡ least_of n → least_of (cons_if a z m) ≡ least_of (cons_if a z n)
     first true m n e = ap (min z) e
     first false m n e = e
 

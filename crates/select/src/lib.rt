@@ -1,4 +1,6 @@
 // The entry at a place of a list as it would stand sorted, found by counting: nothing is sorted, moved or written.
+#![tactic(auto)]
+
 ghost use Rattle.std.specs.Prelude.{◌≡◌, cond, ◌+◌, ◌<◌, leb, ltb, length, get_or};
 ghost use Rattle.lists.specs.Results.{more_if};
 ghost use Rattle.lists.specs.Sorted.{sorted};

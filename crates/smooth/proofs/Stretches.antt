@@ -10,14 +10,14 @@ use lib.Bits.{bit_or}
 use lib.Dec.{leb, ltb}
 use lib.ListN.{length}
 use lib.Ieee.{Float}
-use Rattle.lists.specs.Results.{Listed, Pushed, keep, consIf, more_if}
+use Rattle.lists.specs.Results.{Listed, Pushed, keep, cons_if, more_if}
 use Rattle.lists.specs.Sorted.{StrictlyRises}
 use Rattle.lists.proofs.Tests.{and_cases}
 use Rattle.lists.proofs.Entries.{each_map}
 use Rattle.lists.proofs.Members.{strict_between, each_keep, keep_rises}
 use Rattle.lists.proofs.Counting.{neither}
 use Rattle.lists.proofs.Walks.{NonePass, none_more, Seeking, seek_start, seek_on, seek_past, seek_found, back_found}
-use Rattle.lists.proofs.Fill.{Filling, fill_start, fill_pushed, fill-fitsIf, fill_end, keep_step, keep_over, keep_fits, keep_pass}
+use Rattle.lists.proofs.Fill.{Filling, fill_start, fill_pushed, fill_fits_if, fill_end, keep_step, keep_over, keep_fits, keep_pass}
 use Rattle.smooth.specs.declared.extrema.Extremum.{Extremum}
 use Rattle.smooth.specs.Extrema.{changes_after, flat_last, middle, peaks_at, is_extremum, inside, local_extrema}
 use Rattle.smooth.specs.Offered.{offered}
@@ -26,14 +26,14 @@ use Rattle.smooth.specs.Offered.{offered}
 module _ (t : ℕ → Bool) (n : ℕ) where
   -- of the frames i to j at most m passes
   keep_one : (i j m : ℕ) → i ≤ m → m ≤ j → j < n → ((k : ℕ) → i ≤ k → k ≤ j → (k ≡ m → ⊥) → t k ≡ false) →
-      keep t i (n - i) ≡ consIf (t m) m (keep t (j + 1) (n - (j + 1)))
+      keep t i (n - i) ≡ cons_if (t m) m (keep t (j + 1) (n - (j + 1)))
   keep_one i j m h l k f =
       let to : i + (m - i) ≡ m = omega arith in
       let past : m + 1 + (j - m) ≡ j + 1 = omega arith in
       keep_pass t i (m - i) n (λ x p q. f x p (omega arith) (λ e. omega arith))
       ∙ ap (λ (x : ℕ). keep t x (n - x)) to
       ∙ keep_step t m n (omega arith)
-      ∙ ap (consIf (t m) m) (keep_pass t (m + 1) (j - m) n (λ x p q. f x (omega arith) (omega arith) (λ e. omega arith)) ∙ ap (λ (x : ℕ). keep t x (n - x)) past)
+      ∙ ap (cons_if (t m) m) (keep_pass t (m + 1) (j - m) n (λ x p q. f x (omega arith) (omega arith) (λ e. omega arith)) ∙ ap (λ (x : ℕ). keep t x (n - x)) past)
 
 -- ---- a flat stretch
 -- the value changes after no frame from i to before j, but just before i it does
@@ -73,11 +73,11 @@ module _ (s : List Float) (lo hi : ℕ) (kind : Extremum) where
         let o : i ≤ j = c.alike.low in
         rw (extremum_in (middle i j) (omega arith) (omega arith), eq-eqb (middle i j) (middle i j) refl)
 
-    stretch_cut : keep listed i (length s - i) ≡ consIf (offered kind s lo hi i j) (middle i j) (keep listed (j + 1) (length s - (j + 1)))
+    stretch_cut : keep listed i (length s - i) ≡ cons_if (offered kind s lo hi i j) (middle i j) (keep listed (j + 1) (length s - (j + 1)))
     stretch_cut =
         let o : i ≤ j = c.alike.low in
         keep_one listed (length s) i j (middle i j) (omega arith) (omega arith) c.within listed_not
-        ∙ ap (λ (b : Bool). consIf b (middle i j) (keep listed (j + 1) (length s - (j + 1)))) listed_middle
+        ∙ ap (λ (b : Bool). cons_if b (middle i j) (keep listed (j + 1) (length s - (j + 1)))) listed_middle
 
   -- ---- the walk: the stretch i to j goes on, and what is left to list begins at i
   module _ (out₀ : List ℕ) where
@@ -114,7 +114,7 @@ module _ (s : List Float) (lo hi : ℕ) (kind : Extremum) where
             go false x y = (leb-false (length s) (j + 1) x, y)
 
         pub scan_room : b ≡ true → offered kind s lo hi i j ≡ true → n < length out
-        scan_room t w = fill-fitsIf _ _ _ w (rw (stretch_cut (c.stretch h) (ends t)) at c.todo)
+        scan_room t w = fill_fits_if _ _ _ w (rw (stretch_cut (c.stretch h) (ends t)) at c.todo)
 
         pub scan_cut : b ≡ true → {out' : List ℕ} {n' : ℕ} → Pushed (offered kind s lo hi i j) (middle i j) n out out' n' → Scan out' n' (j + 1) (j + 1)
         scan_cut t p = record {

@@ -5,7 +5,7 @@ ghost use Rattle.lists.specs.Results.{Listed, Pushed, more_if};
 ghost use Rattle.smooth.specs.Extrema.{beyond, unreached, further, lower, furthest, left_clear, right_clear, middle, local_extrema, first_best, changes_after, flat_last, extremum_middle, argmin_middle, argmax_middle, shallow};
 ghost use Rattle.smooth.specs.Offered.{offered};
 
-#[derive(Drop)]
+#[derive(Clone, Copy)]
 pub enum Extremum {
     Max,
     Min,

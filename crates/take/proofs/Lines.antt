@@ -6,21 +6,21 @@ use mathlib.Core.Bool.{Bool, true, false, cond}
 use mathlib.Core.List.{List, [], ◌++◌, flat_map}
 use lib.ListN.{length, get_or, drop, drop_of_length-le}
 use lib.Ieee.{Float, nan}
-use Rattle.lists.specs.Results.{keep, consIf}
-use Rattle.lists.proofs.Fill.{drop-step, keep_step, keep_over}
+use Rattle.lists.specs.Results.{keep, cons_if}
+use Rattle.lists.proofs.Fill.{drop_step, keep_step, keep_over}
 use Rattle.take.specs.Listing.{Marks, pitch_word, nucleus_word, extra_word, edge_word, boundary_word, frame_lines, mark_line, mark_lines, repitched, pitch_lines, region_line, listing}
 
 -- a text for each entry
 module _ (f : ℕ → List ℕ) where
   pub texts_step : (xs : List ℕ) (i : ℕ) → i < length xs → flat_map f (drop i xs) ≡ f (get_or xs i 0) ++ flat_map f (drop (i + 1) xs)
   unfolding flat_map
-  texts_step xs i h = rw (drop-step xs i 0 h)
+  texts_step xs i h = rw (drop_step xs i 0 h)
 
   pub texts_over : (xs : List ℕ) (i : ℕ) → length xs ≤ i → flat_map f (drop i xs) ≡ []
   unfolding flat_map
   texts_over xs i h = rw (drop_of_length-le xs h)
 
-  kept_step : (b : Bool) (i : ℕ) (is : List ℕ) → flat_map f (consIf b i is) ≡ cond b (f i) [] ++ flat_map f is
+  kept_step : (b : Bool) (i : ℕ) (is : List ℕ) → flat_map f (cons_if b i is) ≡ cond b (f i) [] ++ flat_map f is
   unfolding flat_map
   kept_step true i is = refl
   kept_step false i is = refl
@@ -28,7 +28,7 @@ module _ (f : ℕ → List ℕ) where
 -- a line for each frame with its strength
 pub marks_step : (w is : List ℕ) (xs : List Float) (i : ℕ) → i < length is → i < length xs → mark_lines w (drop i is) (drop i xs) ≡ mark_line w (get_or is i 0) (get_or xs i nan) ++ mark_lines w (drop (i + 1) is) (drop (i + 1) xs)
 unfolding mark_lines
-marks_step w is xs i h k = ap₂ (mark_lines w) (drop-step is i 0 h) (drop-step xs i nan k)
+marks_step w is xs i h k = ap₂ (mark_lines w) (drop_step is i 0 h) (drop_step xs i nan k)
 
 pub marks_over : (w is : List ℕ) (xs : List Float) (i : ℕ) → length is ≤ i → mark_lines w (drop i is) (drop i xs) ≡ []
 unfolding mark_lines

@@ -8,7 +8,7 @@ use lib.Dec.{ltb}
 use lib.ListN.{length, get_or, length-append}
 use lib.Ieee.{Float, nan}
 use borrow.Author.Tests.{lt-ltb}
-use Rattle.lists.specs.Results.{keep, consIf}
+use Rattle.lists.specs.Results.{keep, cons_if}
 use Rattle.take.specs.Text.{glyph, decimal_in, decimal}
 use Rattle.take.specs.Listing.{Marks, pitch_word, nucleus_word, extra_word, edge_word, boundary_word, frame_line, mark_line, mark_lines, repitched, pitch_lines, region_line, listing, refused_word, refused_listing, largest_listing}
 use Rattle.take.proofs.Numbers.{hex_length, tenth}
@@ -64,7 +64,7 @@ module _ (b : ℕ) where
   kept_size f t i zero h = zero-le
   kept_size f t i (suc k) h = go (t i) (kept_size f t (suc i) k (λ j l. h j (omega arith)))
     where
-      go : (c : Bool) → length (flat_map f (keep t (suc i) k)) ≤ b * k → length (flat_map f (consIf c i (keep t (suc i) k))) ≤ b * suc k
+      go : (c : Bool) → length (flat_map f (keep t (suc i) k)) ≤ b * k → length (flat_map f (cons_if c i (keep t (suc i) k))) ≤ b * suc k
       go true l = more (f i) (flat_map f (keep t (suc i) k)) k (h i (omega arith)) l
       go false l = omega (arith, mul-suc b k)
 

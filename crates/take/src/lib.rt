@@ -1,4 +1,6 @@
 // The take file and the listing of a take's marks, on bytes.
+#![tactic(auto)]
+
 pub mod fields;
 pub mod file;
 pub mod listing;

@@ -27,17 +27,17 @@ NucleiWithin db pitch start end p room frames strengths r =
 
 -- `extras_within`
 abbrev pub ExtrasWithin : List Float → List Float → List Float → ℕ → ℕ → List ℕ → Settings → ℕ → List ℕ → List Float → List ℕ → List ℕ → Counted → Type 0
-ExtrasWithin db pitch sonority start end nuclei p room frames strengths oldEdges newEdges r =
-    let e = length oldEdges in
+ExtrasWithin db pitch sonority start end nuclei p room frames strengths old_edges new_edges r =
+    let e = length old_edges in
     (r.refusal ≡ extras_refusal db pitch sonority start end nuclei p room room e)
     × Laid (extras_entry db pitch sonority start end nuclei p room room e) frames strengths room r.extras
-    × Listed (edges_entry db pitch sonority start end nuclei p room room e) oldEdges newEdges r.edges
+    × Listed (edges_entry db pitch sonority start end nuclei p room room e) old_edges new_edges r.edges
 
 -- `chain_within`: nuclei and extras at the front of their lists, edges and boundaries over what was lent; `pitch` is the track that it leaves
 abbrev pub ChainWithin : Take → ℕ → ℕ → List ℕ → List ℕ → Lists → List Float → Marks → Type 0
-ChainWithin t room xroom oldEdges oldBounds new pitch r =
-    let number = refusal_for t room room xroom xroom (length oldEdges) (length oldBounds) in
+ChainWithin t room xroom old_edges old_bounds new pitch r =
+    let number = refusal_for t room room xroom xroom (length old_edges) (length old_bounds) in
     let m = reading_by t number in
     (r ≡ answer_by t number) × (pitch ≡ m.pitch)
     × Laid m.nuclei new.frames new.strengths room r.nuclei × Laid m.extras new.xframes new.xstrengths xroom r.extras
-    × (new.edges ≡ overlay m.edges oldEdges) × (new.bounds ≡ overlay m.boundaries oldBounds)
+    × (new.edges ≡ overlay m.edges old_edges) × (new.bounds ≡ overlay m.boundaries old_bounds)

@@ -1,5 +1,7 @@
 // The entries over plain lists that stand for a caller's lists of records: each is refused as these would be, by the room that they
 // have. No take has more than 2,048 nuclei, so lists of that many entries stand for any.
+#![tactic(auto)]
+
 ghost use Rattle.std.specs.Prelude.{◌≤◌, length, take};
 ghost use Rattle.entries.specs.Stages.{BoundariesWithCall, BoundariesCall};
 ghost use Rattle.chain.specs.Chain.{take_of, lists_of};

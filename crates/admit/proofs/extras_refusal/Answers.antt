@@ -1,0 +1,24 @@
+-- `extras_refusal` meets its contract. Assumes nothing.
+use mathlib.Core.Path.{refl, sym}
+use Rattle.admit.specs.Refusals.{tested, refusal, extras_refusal}
+use Rattle.admit.proofs.First.{passed_in_turn, numbered, stop, next}
+use Rattle.admit.proofs.Ranges.{n0, n1, n20, n4000}
+use Rattle.admit.proofs.extras_refusal.Goals as goal
+
+pub returns-then-not-tracks-nuclei : goal.returns-then-not-tracks-nuclei
+unfolding extras_refusal refusal tested passed_in_turn
+returns-then-not-tracks-nuclei c = stop _ _ _ c.if-not-tracks-nuclei.true
+
+pub returns : goal.returns
+unfolding extras_refusal refusal tested passed_in_turn
+returns c =
+    numbered _ _ c.number_of.ensures
+    (next (sym c.if-not-tracks-nuclei.false)
+    (next refl
+    (next c.settings_admitted.ensures
+    (next c.all_db.ensures
+    (next (rw (n20, n4000) at c.all_pitches.ensures)
+    (next (rw (n0, n1) at c.all_within.ensures)
+    (next refl
+    (next c.is_rising.ensures
+    refl))))))))

@@ -1,0 +1,10 @@
+-- `values::all_within` meets its contract. Assumes nothing.
+use lib.Ieee.{nan}
+use Rattle.admit.proofs.Every.{tested_turn, tested_end}
+use Rattle.admit.proofs.values.all_within.Goals as goal
+
+pub loop-i-preserved : goal.loop-i-preserved
+loop-i-preserved c = tested_turn nan c.loop-i-test.true c.loop-i.invariant c.within-good.ensures
+
+pub returns : goal.returns
+returns c = tested_end c.loop-i-test.false c.loop-i.invariant

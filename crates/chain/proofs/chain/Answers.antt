@@ -1,0 +1,52 @@
+-- `chain` meets its contract: what admission gives is what the stages ask. Assumes nothing.
+use borrow.Author.Rules.{rules}
+use mathlib.Core.Path.{sym, ap, ◌∙◌}
+use lib.Dec.{T}
+use lib.ListN.{length}
+use lib.Ieee.{nan, binary32, fits}
+use Rattle.lists.proofs.Entries.{at_each}
+use Rattle.admit.proofs.Admitted.{chain_admitted}
+use Rattle.chain.specs.Chain.{take_of, pitches_of, lists_of}
+use Rattle.chain.proofs.Marking.{length_pitches, refused_left, read_left}
+use Rattle.chain.proofs.chain.Goals as goal
+
+pub returns-then-number-ne0 : goal.returns-then-number-ne0
+returns-then-number-ne0 c =
+    let a = c.args in
+    refused_left
+    (take_of a.db.now a.pitch.now a.voiced.now a.sonority.now a.vowel.now a.samples.now a.p)
+    (lists_of a.frames.now a.strengths.now a.xframes.now a.xstrengths.now a.edges.now a.bounds.now)
+    c.chain_refusal-number.result c.chain_refusal-number.ensures c.if-number-ne0.true
+    c.nothing.ensures
+
+pub mark_pitches-requires : goal.mark_pitches-requires
+mark_pitches-requires c =
+    let a = c.args in
+    let held = at_each (λ x. T (fits binary32 x)) a.pitch.now nan (λ i _. search rules) in
+    let h = chain_admitted a.db.now a.pitch.now a.voiced.now a.sonority.now a.vowel.now (length a.samples.now) a.p
+    (length a.frames.now) (length a.strengths.now) (length a.xframes.now) (length a.xstrengths.now) (length a.edges.now)
+    (length a.bounds.now) held (sym c.chain_refusal-number.ensures ∙ c.if-number-ne0.false) in
+    (h.size, h.pitches, h.repairs)
+
+pub mark_take-requires : goal.mark_take-requires
+unfolding pitches_of
+mark_take-requires c =
+    let a = c.args in
+    let held = at_each (λ x. T (fits binary32 x)) a.pitch.now nan (λ i _. search rules) in
+    let h = chain_admitted a.db.now a.pitch.now a.voiced.now a.sonority.now a.vowel.now (length a.samples.now) a.p
+    (length a.frames.now) (length a.strengths.now) (length a.xframes.now) (length a.xstrengths.now) (length a.edges.now)
+    (length a.bounds.now) held
+    (sym c.chain_refusal-number.ensures ∙ c.if-number-ne0.false) in
+    let n = ap length c.mark_pitches.ensures ∙ length_pitches
+    (take_of a.db.now a.pitch.now a.voiced.now a.sonority.now a.vowel.now a.samples.now a.p) ∙ h.pitches in
+    record { db_len_bound = (h.size, n, h.voices); room = (h.frame_room, h.strength_room, h.xframe_room, h.xstrength_room, h.edge_room, h.bound_room) }
+
+pub returns : goal.returns
+unfolding pitches_of
+returns c =
+    let a = c.args in
+    read_left
+    (take_of a.db.now a.pitch.now a.voiced.now a.sonority.now a.vowel.now a.samples.now a.p)
+    (lists_of a.frames.now a.strengths.now a.xframes.now a.xstrengths.now a.edges.now a.bounds.now)
+    (sym c.chain_refusal-number.ensures ∙ c.if-number-ne0.false)
+    c.mark_pitches.ensures c.mark_take.ensures

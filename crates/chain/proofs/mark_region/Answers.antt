@@ -1,0 +1,30 @@
+-- `mark_region` meets its contract: extra candidates and boundaries are given the nuclei at the front of the list. Assumes nothing.
+use Rattle.lists.proofs.Fill.{listed_fits, listed_count}
+use Rattle.chain.proofs.Marking.{lent_rises, told}
+use Rattle.chain.proofs.mark_region.Goals as goal
+
+pub slice_bounds-extra_candidates-end : goal.slice_bounds-extra_candidates-end
+slice_bounds-extra_candidates-end c = listed_fits c.nuclei-n.ensures.0
+
+pub slice_bounds-extra_candidates-end-2 : goal.slice_bounds-extra_candidates-end-2
+slice_bounds-extra_candidates-end-2 c = listed_count c.nuclei-n.ensures.0
+
+pub extra_candidates-x-requires : goal.extra_candidates-x-requires
+extra_candidates-x-requires c = (c.requires.db_len_bound.0, c.requires.db_len_bound.1, c.requires.db_len_bound.4, c.requires.room.2, c.requires.room.3, c.requires.room.4)
+
+pub slice_bounds-boundaries_with-end : goal.slice_bounds-boundaries_with-end
+slice_bounds-boundaries_with-end c = listed_fits c.nuclei-n.ensures.0
+
+pub slice_bounds-boundaries_with-end-2 : goal.slice_bounds-boundaries_with-end-2
+slice_bounds-boundaries_with-end-2 c = listed_count c.nuclei-n.ensures.0
+
+pub boundaries_with-bs-requires : goal.boundaries_with-bs-requires
+boundaries_with-bs-requires c =
+    let f = c.nuclei-n.ensures.0 in
+    record { start_le_end = (c.requires.db_len_bound.3, c.requires.db_len_bound.4, c.requires.db_len_bound.0, c.requires.db_len_bound.1, c.requires.db_len_bound.2); strictly_rises = lent_rises c.args.db.now c.args.pitch.now c.args.voiced.now c.args.sonority.now c.args.p c.args.start c.args.end c.requires.db_len_bound.4 f; db_in_bounds = c.requires.room.5 }
+
+pub returns : goal.returns
+returns c =
+    let n = c.nuclei-n.ensures in
+    let x = c.extra_candidates-x.ensures in
+    told c.args.db.now c.args.pitch.now c.args.voiced.now c.args.sonority.now c.args.p c.args.start c.args.end n.0 n.1 x.0 x.1 x.2 c.boundaries_with-bs.ensures

@@ -1,0 +1,18 @@
+-- `values::is_estimate` tells whether a number lies within the range. Assumes nothing.
+use Rattle.std.proofs.Common.{Bool, ◌&&◌, sym, ap, ◌∙◌, ap₂}
+use lib.Ieee.{of_bits, le}
+use Rattle.powers.specs.Pitch.{hz}
+use Rattle.powers.proofs.UnitLaws.{bound_below, bound_above}
+use Rattle.compare_answers.proofs.values.is_estimate.Goals as goal
+
+pub returns-then-p : goal.returns-then-p
+unfolding of_bits
+returns-then-p c =
+    let p = c.args.p in
+    sym (ap₂ ◌&&◌ (sym (bound_below 15 2 p) ∙ c.if-p.true) (sym (bound_above 75 3 p)))
+
+pub returns-else-p : goal.returns-else-p
+unfolding of_bits
+returns-else-p c =
+    let p = c.args.p in
+    c.if-p.false ∙ sym (ap (λ (b : Bool). b && le p (hz 600)) (sym (bound_below 15 2 p) ∙ c.if-p.false))

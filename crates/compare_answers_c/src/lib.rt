@@ -1,0 +1,181 @@
+// What the judge links: every answer under one C name, and each stage by itself to be timed. A slice is a pointer and a
+// length there. Whoever calls a stage keeps to its `requires`; the chain has none. Settings are
+// the defaults.
+#![tactic(auto)]
+
+ghost use Rattle.std.specs.Prelude.{◌≡◌, ◌+◌, ◌≤◌, length};
+ghost use Rattle.lists.specs.Sorted.{StrictlyRises};
+ghost use Rattle.repair.specs.Repair.{Pitches};
+
+use region::{Region, default_settings};
+use smooth::extrema::Extremum;
+
+// The answer to an input of a kind, at the front of out; returns its length.
+#[unsafe(no_mangle)]
+pub extern "C" fn judge_answer(kind: u32, input: &[u8], out: &mut [u8]) -> usize {
+    compare_answers::answer((kind % 256) as u8, input, out)
+}
+
+// Floor, threshold and region; the start times 2^32 plus the end, 0 for no region.
+#[unsafe(no_mangle)]
+pub extern "C" fn judge_region(db: &[f32]) -> u64
+    requires { length db.now ≤ 2048 }
+{
+    match region::speech_region(db, default_settings()) {
+        Region::Nowhere => 0,
+        Region::Span(start, end) => (start as u64) * 0x1_0000_0000 + (end as u64),
+    }
+}
+
+#[unsafe(no_mangle)]
+pub extern "C" fn judge_level(db: &[f32], out: &mut [f32])
+    requires { (length db.now ≤ length out.old) × (length db.now ≤ 2048) }
+{
+    smooth::level::smoothed_db(db, out);
+}
+
+// Maxima, then minima over them in the same list; returns the count of the minima.
+#[unsafe(no_mangle)]
+pub extern "C" fn judge_extrema(s: &[f32], out: &mut [u32]) -> usize
+    requires { (length s.now ≤ length out.old) × (length s.now ≤ 2048) }
+{
+    smooth::extrema::local_extrema(s, 0, s.len(), Extremum::Max, out);
+    smooth::extrema::local_extrema(s, 0, s.len(), Extremum::Min, out)
+}
+
+// Long runs, then syllable runs, then dropouts in the same lists; returns the count of the dropouts.
+#[unsafe(no_mangle)]
+pub extern "C" fn judge_runs(pitch: &[f32], a: &mut [u32], b: &mut [u32]) -> usize
+    requires { (length pitch.now ≤ 2048) × (length pitch.now ≤ length a.old) × (length pitch.now ≤ length b.old) }
+{
+    runs::voiced::long_runs(pitch, a, b);
+    runs::syllables::syllable_runs(pitch, a, b);
+    runs::syllables::dropouts(pitch, a, b)
+}
+
+// Octave repair.
+#[unsafe(no_mangle)]
+pub extern "C" fn judge_repair(pitch: &mut [f32])
+    requires { (length pitch.old ≤ 2048) × Pitches 40 2000 pitch.old }
+{
+    repair::repair_octaves(pitch);
+}
+
+// Recovered pitch.
+#[unsafe(no_mangle)]
+pub extern "C" fn judge_recover(pitch: &mut [f32], samples: &[i16], speech: &[u8], vowel: &[u8])
+    requires { length pitch.old ≤ 2048 }
+{
+    recover::recover_pitch(pitch, samples, speech, vowel);
+}
+
+// Nuclei of a region: how many; their frames and strengths.
+#[unsafe(no_mangle)]
+pub extern "C" fn judge_nuclei(
+    db: &[f32],
+    pitch: &[f32],
+    start: usize,
+    end: usize,
+    frames: &mut [u32],
+    strengths: &mut [f32],
+) -> usize
+    requires { (length db.now ≤ 2048) × (length pitch.now ≡ length db.now) × (end ≤ length db.now)
+        × (length db.now ≤ length frames.old) × (length db.now ≤ length strengths.old) }
+{
+    nuclei::nuclei(db, pitch, start, end, default_settings(), frames, strengths)
+}
+
+// Boundaries of a region around given nuclei: how many; their frames.
+#[unsafe(no_mangle)]
+pub extern "C" fn judge_boundaries(
+    db: &[f32],
+    pitch: &[f32],
+    voiced: &[f32],
+    start: usize,
+    end: usize,
+    nuclei: &[u32],
+    out: &mut [u32],
+) -> usize
+    requires start_le_end { (start ≤ end) × (end ≤ length db.now) × (length db.now ≤ 2048) × (length pitch.now ≡ length db.now)
+        × (length voiced.now ≡ length db.now) }
+    requires strictly_rises { StrictlyRises 0 (length db.now) nuclei.now }
+    requires db_in_bounds { length db.now + 1 ≤ length out.old }
+{
+    boundaries::boundaries_with(
+        db,
+        pitch,
+        voiced,
+        start,
+        end,
+        nuclei,
+        default_settings(),
+        out,
+    )
+}
+
+// Extra candidates of a region beside given nuclei: how many, and how many edges, added.
+#[unsafe(no_mangle)]
+pub extern "C" fn judge_extras(
+    db: &[f32],
+    pitch: &[f32],
+    sonority: &[f32],
+    start: usize,
+    end: usize,
+    nuclei: &[u32],
+    frames: &mut [u32],
+    strengths: &mut [f32],
+    edges: &mut [u32],
+) -> usize
+    requires db_len_bound { (length db.now ≤ 2048) × (length pitch.now ≡ length db.now) × (start ≤ end) × (end ≤ length db.now)
+        × (length db.now ≤ length frames.old) × (length db.now ≤ length strengths.old)
+        × (length db.now ≤ length edges.old) }
+    requires strictly_rises { StrictlyRises 0 (length db.now) nuclei.now }
+{
+    let c = extra::extra_candidates(
+        db,
+        pitch,
+        sonority,
+        start,
+        end,
+        nuclei,
+        default_settings(),
+        frames,
+        strengths,
+        edges,
+    );
+    c.extras
+}
+
+// The whole chain: its refusal number.
+#[unsafe(no_mangle)]
+pub extern "C" fn judge_chain(
+    db: &[f32],
+    pitch: &mut [f32],
+    voiced: &[f32],
+    sonority: &[f32],
+    vowel: &[u8],
+    samples: &[i16],
+    frames: &mut [u32],
+    strengths: &mut [f32],
+    xframes: &mut [u32],
+    xstrengths: &mut [f32],
+    edges: &mut [u32],
+    bounds: &mut [u32],
+) -> u32 {
+    let m = chain::chain(
+        db,
+        pitch,
+        voiced,
+        sonority,
+        vowel,
+        samples,
+        default_settings(),
+        frames,
+        strengths,
+        xframes,
+        xstrengths,
+        edges,
+        bounds,
+    );
+    m.refusal
+}

@@ -1,0 +1,11 @@
+-- `kiddwyr_nuclei`: what two plain lists hold, as records. Assumes nothing.
+use Rattle.kiddwyr.proofs.Wrapped.{laid_room, laid_listed}
+use Rattle.kiddwyr.proofs.kiddwyr_nuclei.Goals as goal
+
+pub fill_nuclei-requires : goal.fill_nuclei-requires
+fill_nuclei-requires c = laid_room c.nuclei_within-answer.ensures.1
+
+pub returns : goal.returns
+returns c =
+    let e = c.nuclei_within-answer.ensures in
+    (e.0, laid_listed e.1 c.fill_nuclei.ensures)
