@@ -25,8 +25,9 @@
  *
  * No function allocates, keeps anything between calls or calls the system, so calls in different
  * threads do not meet unless they share a list. This is so because the language that the library
- * is written in has neither a heap nor global state; and `nm` lists no undefined symbol but the C
- * library's helpers that copy and fill memory. What a call needs it has on the stack: the chain about
+ * is written in has no global state, and gives its heap and the system only to functions that are
+ * lent a handle, which none here is; and `nm` lists no undefined symbol but the C library's helpers
+ * that copy and fill memory. What a call needs it has on the stack: the chain about
  * 125 KB, the others less.
  */
 #ifndef KIDDWYR_H

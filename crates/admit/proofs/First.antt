@@ -14,6 +14,8 @@ use Rattle.lists.specs.By.{Each}
 use Rattle.lists.specs.Marks.{member}
 use Rattle.lists.proofs.Tests.{and_cases, or_cases}
 use Rattle.admit.specs.Values.{all_of}
+use Rattle.admit.specs.declared.numbers.Refusal.{Refusal}
+use Rattle.admit.specs.Numbers.{number_at, numbers_in, tests_in}
 use Rattle.admit.specs.First.{Test, first_of, passes, first_failed}
 
 -- ---- by what the tests are known to equal, those of a number joined one after the other as the code does
@@ -47,19 +49,19 @@ unfolding first_of
 after_first n ns true h = ap (first_of ns) (h refl)
 after_first n ns false h = refl
 
--- ---- from the front: what is left after i entries says the same as the whole
-module _ (ns : List ℕ) (bs : List Bool) (i : ℕ) (h : first_of (drop i ns) (drop i bs) ≡ first_of ns bs) where
-  pub at_failed : (d : Bool) → i < length bs → length bs ≤ length ns → get_or bs i d ≡ false → get_or ns i 0 ≡ first_of ns bs
+-- ---- from the front: what is left after i rows says the same as the table
+module _ (table : List (Bool × Refusal)) (i : ℕ) (h : first_of (numbers_in (drop i table)) (tests_in (drop i table)) ≡ first_of (numbers_in table) (tests_in table)) where
+  pub at_failed : (d : Bool × Refusal) → i < length table → (get_or table i d).0 ≡ false → number_at (get_or table i d).1 ≡ first_of (numbers_in table) (tests_in table)
   unfolding first_of
-  at_failed d l m e = rw e at (rw (drop-cons ns i 0 (omega arith), drop-cons bs i d l) at h)
+  at_failed d l e = rw e at (rw (drop-cons table i d l) at h)
 
-  pub past_passed : (d : Bool) → i < length bs → length bs ≤ length ns → get_or bs i d ≡ true → first_of (drop (i + 1) ns) (drop (i + 1) bs) ≡ first_of ns bs
+  pub past_passed : (d : Bool × Refusal) → i < length table → (get_or table i d).0 ≡ true → first_of (numbers_in (drop (i + 1) table)) (tests_in (drop (i + 1) table)) ≡ first_of (numbers_in table) (tests_in table)
   unfolding first_of
-  past_passed d l m e = rw (add-one i) (rw e at (rw (drop-cons ns i 0 (omega arith), drop-cons bs i d l) at h))
+  past_passed d l e = rw (add-one i) (rw e at (rw (drop-cons table i d l) at h))
 
-  pub none_failed : length bs ≤ i → 0 ≡ first_of ns bs
+  pub none_failed : length table ≤ i → 0 ≡ first_of (numbers_in table) (tests_in table)
   unfolding first_of
-  none_failed l = rw (drop_of_length-le bs l) at h
+  none_failed l = rw (drop_of_length-le table l) at h
 
 -- ---- 0: every test is passed
 cond_zero : (b : Bool) {later n : ℕ} → 0 < n → cond b later n ≡ 0 → (b ≡ true) × (later ≡ 0)

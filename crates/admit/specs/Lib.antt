@@ -1,3 +1,4 @@
 pub mod Values
 pub mod First
+pub mod Numbers
 pub mod Refusals

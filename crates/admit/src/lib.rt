@@ -1,5 +1,7 @@
-// What each entry is given is tested here, and the number of the first refusal that applies is returned, 0 where none
-// does. Lengths come first, so that no later test reads more than 2,048 entries of a list.
+// What each entry is given is tested here, and the first refusal that applies is returned. Lengths come first, so that no
+// later test reads more than 2,048 entries of a list.
+// Each track, list and end of a region is a parameter of its own: the C interface gives them so, and a region that is not admitted
+// yet may end before it starts.
 #![tactic(auto)]
 
 pub mod numbers;
@@ -7,9 +9,10 @@ pub mod values;
 
 ghost use Rattle.std.specs.Prelude.{◌≡◌, [], ◌∷◌};
 ghost use Rattle.admit.specs.First.{first_of};
+ghost use Rattle.admit.specs.Numbers.{number_of};
 ghost use Rattle.admit.specs.Refusals.{order, speech_refusal, region_refusal, repair_refusal, recovery_refusal, nuclei_refusal, extras_refusal, boundaries_refusal, boundaries_with_refusal, chain_refusal};
 
-use numbers::first_failed;
+use numbers::{Refusal, first_failed};
 use region::{Settings, default_settings};
 use values::{all_db, all_marks, all_pitches, all_within, is_rising, settings_admitted};
 
@@ -19,7 +22,7 @@ const MAX_FRAMES: usize = 2048;
 // 160 samples for each of the most frames.
 const MAX_SAMPLES: usize = 327680;
 
-// Whether the tests of each number are passed: by `pitch` those of pitches and `voiced_p`, by `sonority` those of
+// Whether the tests of each refusal are passed: by `pitch` those of pitches and `voiced_p`, by `sonority` those of
 // sonority and marks. An entry leaves what it is not given at true.
 #[derive(Clone, Copy)]
 struct Passed {
@@ -48,72 +51,83 @@ const UNTESTED: Passed = Passed {
     room: true,
 };
 
-// The table: the numbers in the order of the tests.
-fn number_of(t: Passed) -> u32
-    ensures { result ≡ first_of order
+// The table: the refusals in the order of the tests.
+fn first_refusal(t: Passed) -> Result<(), Refusal>
+    ensures { number_of result ≡ first_of order
         (t.lengths ∷ t.alike ∷ t.settings ∷ t.db ∷ t.pitch ∷ t.sonority ∷ t.region ∷ t.nuclei ∷ t.samples ∷ t.room ∷
         []) }
 {
-    let numbers = [1, 2, 3, 4, 5, 6, 7, 8, 9, 10];
-    let passed = [
-        t.lengths, t.alike, t.settings, t.db, t.pitch, t.sonority, t.region, t.nuclei, t.samples,
-        t.room,
-    ];
-    first_failed(&numbers, &passed)
+    first_failed(&[
+        (t.lengths, Refusal::Lengths),
+        (t.alike, Refusal::Alike),
+        (t.settings, Refusal::Settings),
+        (t.db, Refusal::Db),
+        (t.pitch, Refusal::Pitch),
+        (t.sonority, Refusal::Sonority),
+        (t.region, Refusal::Region),
+        (t.nuclei, Refusal::Nuclei),
+        (t.samples, Refusal::Samples),
+        (t.room, Refusal::Room),
+    ])
 }
 
 // For speech marks, into a list of `marks` entries.
-pub fn speech_refusal(db: &[f32], p: Settings, marks: usize) -> u32
-    ensures { result ≡ speech_refusal db.now p marks }
+pub fn speech_refusal(db: &[f32], p: Settings, marks: usize) -> Result<(), Refusal>
+    ensures { number_of result ≡ speech_refusal db.now p marks }
 {
     let n = db.len();
     if n > MAX_FRAMES {
-        return 1;
+        return Err(Refusal::Lengths);
     }
     let mut t = UNTESTED;
     t.settings = settings_admitted(p);
     t.db = all_db(db);
     t.room = n <= marks;
-    number_of(t)
+    first_refusal(t)
 }
 
 // For the region.
-pub fn region_refusal(db: &[f32], p: Settings) -> u32
-    ensures { result ≡ region_refusal db.now p }
+pub fn region_refusal(db: &[f32], p: Settings) -> Result<(), Refusal>
+    ensures { number_of result ≡ region_refusal db.now p }
 {
     if db.len() > MAX_FRAMES {
-        return 1;
+        return Err(Refusal::Lengths);
     }
     let mut t = UNTESTED;
     t.settings = settings_admitted(p);
     t.db = all_db(db);
-    number_of(t)
+    first_refusal(t)
 }
 
 // For the octave repair: an octave either way leaves a pitch within 20 to 4,000 Hz.
-pub fn repair_refusal(pitch: &[f32]) -> u32
-    ensures { result ≡ repair_refusal pitch.now }
+pub fn repair_refusal(pitch: &[f32]) -> Result<(), Refusal>
+    ensures { number_of result ≡ repair_refusal pitch.now }
 {
     if pitch.len() > MAX_FRAMES {
-        return 1;
+        return Err(Refusal::Lengths);
     }
     let mut t = UNTESTED;
     t.pitch = all_pitches(pitch, 40.0, 2000.0);
-    number_of(t)
+    first_refusal(t)
 }
 
 // For the recovery, by the number of samples. Marks may be fewer or more than the pitches.
-pub fn recovery_refusal(pitch: &[f32], samples: usize, speech: &[u8], vowel: &[u8]) -> u32
-    ensures { result ≡ recovery_refusal pitch.now samples speech.now vowel.now }
+pub fn recovery_refusal(
+    pitch: &[f32],
+    samples: usize,
+    speech: &[u8],
+    vowel: &[u8],
+) -> Result<(), Refusal>
+    ensures { number_of result ≡ recovery_refusal pitch.now samples speech.now vowel.now }
 {
     if !((pitch.len() <= MAX_FRAMES) & (speech.len() <= MAX_FRAMES) & (vowel.len() <= MAX_FRAMES)) {
-        return 1;
+        return Err(Refusal::Lengths);
     }
     let mut t = UNTESTED;
     t.pitch = all_pitches(pitch, 20.0, 4000.0);
     t.sonority = all_marks(speech) & all_marks(vowel);
     t.samples = samples <= MAX_SAMPLES;
-    number_of(t)
+    first_refusal(t)
 }
 
 // For nuclei, into two lists of so many entries.
@@ -125,12 +139,12 @@ pub fn nuclei_refusal(
     p: Settings,
     frames: usize,
     strengths: usize,
-) -> u32
-    ensures { result ≡ nuclei_refusal db.now pitch.now start end p frames strengths }
+) -> Result<(), Refusal>
+    ensures { number_of result ≡ nuclei_refusal db.now pitch.now start end p frames strengths }
 {
     let n = db.len();
     if !((n <= MAX_FRAMES) & (pitch.len() <= MAX_FRAMES)) {
-        return 1;
+        return Err(Refusal::Lengths);
     }
     let mut t = UNTESTED;
     t.alike = pitch.len() == n;
@@ -139,7 +153,7 @@ pub fn nuclei_refusal(
     t.pitch = all_pitches(pitch, 20.0, 4000.0);
     t.region = (start <= end) & (end <= n);
     t.room = (n <= frames) & (n <= strengths);
-    number_of(t)
+    first_refusal(t)
 }
 
 // For extra candidates, into two lists and a list of edges. A sonority of another length than the track is admitted.
@@ -154,14 +168,14 @@ pub fn extras_refusal(
     frames: usize,
     strengths: usize,
     edges: usize,
-) -> u32
-    ensures { result ≡ extras_refusal db.now pitch.now sonority.now start end
+) -> Result<(), Refusal>
+    ensures { number_of result ≡ extras_refusal db.now pitch.now sonority.now start end
         nuclei.now p frames strengths edges }
 {
     let n = db.len();
     let tracks = (n <= MAX_FRAMES) & (pitch.len() <= MAX_FRAMES) & (sonority.len() <= MAX_FRAMES);
     if !(tracks & (nuclei.len() <= MAX_FRAMES)) {
-        return 1;
+        return Err(Refusal::Lengths);
     }
     let mut t = UNTESTED;
     t.alike = pitch.len() == n;
@@ -172,7 +186,7 @@ pub fn extras_refusal(
     t.region = (start <= end) & (end <= n);
     t.nuclei = is_rising(nuclei, n);
     t.room = (n <= frames) & (n <= strengths) & (n <= edges);
-    number_of(t)
+    first_refusal(t)
 }
 
 // For boundaries under the defaults, into a list of `bounds` entries.
@@ -184,8 +198,8 @@ pub fn boundaries_refusal(
     end: usize,
     nuclei: &[u32],
     bounds: usize,
-) -> u32
-    ensures { result ≡ boundaries_refusal db.now pitch.now voiced.now start end
+) -> Result<(), Refusal>
+    ensures { number_of result ≡ boundaries_refusal db.now pitch.now voiced.now start end
         nuclei.now bounds }
 {
     boundaries_with_refusal(
@@ -210,14 +224,14 @@ pub fn boundaries_with_refusal(
     nuclei: &[u32],
     p: Settings,
     bounds: usize,
-) -> u32
-    ensures { result ≡ boundaries_with_refusal db.now pitch.now voiced.now start end
+) -> Result<(), Refusal>
+    ensures { number_of result ≡ boundaries_with_refusal db.now pitch.now voiced.now start end
         nuclei.now p bounds }
 {
     let n = db.len();
     let tracks = (n <= MAX_FRAMES) & (pitch.len() <= MAX_FRAMES) & (voiced.len() <= MAX_FRAMES);
     if !(tracks & (nuclei.len() <= MAX_FRAMES)) {
-        return 1;
+        return Err(Refusal::Lengths);
     }
     let mut t = UNTESTED;
     t.alike = (pitch.len() == n) & (voiced.len() == n);
@@ -227,7 +241,7 @@ pub fn boundaries_with_refusal(
     t.region = (start <= end) & (end <= n);
     t.nuclei = is_rising(nuclei, n);
     t.room = n < bounds;
-    number_of(t)
+    first_refusal(t)
 }
 
 // For the chain: frames and strengths of nuclei, then of extras, then edges and boundaries are lists of so many entries.
@@ -245,14 +259,14 @@ pub fn chain_refusal(
     xstrengths: usize,
     edges: usize,
     bounds: usize,
-) -> u32
-    ensures { result ≡ chain_refusal db.now pitch.now voiced.now sonority.now
+) -> Result<(), Refusal>
+    ensures { number_of result ≡ chain_refusal db.now pitch.now voiced.now sonority.now
         vowel.now samples p frames strengths xframes xstrengths edges bounds }
 {
     let n = db.len();
     let tracks = (n <= MAX_FRAMES) & (pitch.len() <= MAX_FRAMES) & (voiced.len() <= MAX_FRAMES);
     if !(tracks & (sonority.len() <= MAX_FRAMES) & (vowel.len() <= MAX_FRAMES)) {
-        return 1;
+        return Err(Refusal::Lengths);
     }
     let mut t = UNTESTED;
     t.alike = (pitch.len() == n) & (voiced.len() == n);
@@ -264,5 +278,5 @@ pub fn chain_refusal(
     let nuclei = (n <= frames) & (n <= strengths);
     let extras = nuclei & (n <= xframes) & (n <= xstrengths);
     t.room = extras & (n <= edges) & (n < bounds);
-    number_of(t)
+    first_refusal(t)
 }

@@ -1,18 +1,51 @@
-// The first of several numbers of which a test fails: what every table of refusals goes by.
-ghost use Rattle.std.specs.Prelude.{◌≡◌, ◌≤◌, length};
+// The refusals, and the first of several whose test fails: what every table of refusals goes by.
+ghost use Rattle.std.specs.Prelude.{◌≡◌};
 ghost use Rattle.admit.specs.First.{first_of};
+ghost use Rattle.admit.specs.Numbers.{number_at, number_of, numbers_in, tests_in};
 
-// The first number that is not passed, 0 where each is.
-pub fn first_failed(numbers: &[u32], passed: &[bool]) -> u32
-    requires { length passed.now ≤ length numbers.now }
-    ensures { result ≡ first_of numbers.now passed.now }
-{
-    let mut i = 0;
-    while i < passed.len() {
-        if !passed[i] {
-            return numbers[i];
-        }
-        i += 1;
+// Why a call is refused, with the number that C callers get: lengths over the limit, lists that are not alike, what is
+// given for a parameter or in a list, too little room; and bytes of a take file that do not agree.
+#[derive(Clone, Copy, PartialEq, Eq)]
+pub enum Refusal {
+    Lengths = 1,
+    Alike = 2,
+    Settings = 3,
+    Db = 4,
+    Pitch = 5,
+    Sonority = 6,
+    Region = 7,
+    Nuclei = 8,
+    Samples = 9,
+    Room = 10,
+    Bytes = 11,
+}
+
+impl From<Refusal> for u32 {
+    ghost from_gives = { λ r n. n ≡ number_at r };
+
+    fn from(r: Refusal) -> u32 {
+        r as u32
     }
-    0
+}
+
+// The number of a refusal, 0 for none.
+pub fn number(r: Result<(), Refusal>) -> u32
+    ensures { result ≡ number_of r }
+{
+    match r {
+        Ok(()) => 0,
+        Err(refusal) => u32::from(refusal),
+    }
+}
+
+// The first refusal whose test fails.
+pub fn first_failed(table: &[(bool, Refusal)]) -> Result<(), Refusal>
+    ensures { number_of result ≡ first_of (numbers_in table.now) (tests_in table.now) }
+{
+    for (passed, refusal) in table {
+        if !*passed {
+            return Err(*refusal);
+        }
+    }
+    Ok(())
 }

@@ -1,6 +1,6 @@
 // Tests of one value, of every entry of a list, and of the settings. None asks anything of what it is given. They are
 // joined by `&` and `|`, which do not branch, so that a loop over a track has no branch but its own.
-ghost use Rattle.std.specs.Prelude.{◌≡◌, ◌&&◌, ◌+◌, leb, ltb};
+ghost use Rattle.std.specs.Prelude.{◌≡◌, ◌&&◌, ◌+◌, leb, ltb, All};
 ghost use Rattle.floats.specs.Plain.{is_between};
 ghost use Rattle.admit.specs.Values.{number, db_admitted, pitch_admitted, mark_admitted, all_of, rising};
 
@@ -37,56 +37,44 @@ pub fn settings_admitted(p: Settings) -> bool
     within(p.margin, 0.0, 200.0) & within(p.dip, 0.0, 200.0) & (p.gap <= 1000)
 }
 
+// Whether every entry of a list passes a test, which is asked of each entry, so that the loop has no branch but its own.
+fn every<T: Copy, F: Fn(T) -> bool>(xs: &[T], test: F) -> bool
+    requires { F.IsAlwaysCallable test }
+    ensures { (p : _) → All (λ x. (b : _) → F.post test x b → b ≡ p x) xs.now → result ≡ all_of p xs.now }
+{
+    let mut good = true;
+    for x in xs {
+        good = good & test(*x);
+    }
+    good
+}
+
 // Every dB of a track.
 pub fn all_db(db: &[f32]) -> bool
     ensures { result ≡ all_of db_admitted db.now }
 {
-    let mut good = true;
-    let mut i = 0;
-    while i < db.len() {
-        good = good & db_admitted(db[i]);
-        i += 1;
-    }
-    good
+    every(db, |d| db_admitted(d))
 }
 
 // Every pitch of a track.
 pub fn all_pitches(pitch: &[f32], lo: f32, hi: f32) -> bool
     ensures { result ≡ all_of (pitch_admitted lo hi) pitch.now }
 {
-    let mut good = true;
-    let mut i = 0;
-    while i < pitch.len() {
-        good = good & pitch_admitted(pitch[i], lo, hi);
-        i += 1;
-    }
-    good
+    every(pitch, |x| pitch_admitted(x, lo, hi))
 }
 
 // Every value of a track from lo to hi; -0.0 counts as 0.
 pub fn all_within(track: &[f32], lo: f32, hi: f32) -> bool
     ensures { result ≡ all_of (is_between lo hi) track.now }
 {
-    let mut good = true;
-    let mut i = 0;
-    while i < track.len() {
-        good = good & within(track[i], lo, hi);
-        i += 1;
-    }
-    good
+    every(track, |x| within(x, lo, hi))
 }
 
 // Every mark of a list.
 pub fn all_marks(marks: &[u8]) -> bool
     ensures { result ≡ all_of mark_admitted marks.now }
 {
-    let mut good = true;
-    let mut i = 0;
-    while i < marks.len() {
-        good = good & (marks[i] <= 1);
-        i += 1;
-    }
-    good
+    every(marks, |m| m <= 1)
 }
 
 // The frame after x.
@@ -110,12 +98,9 @@ pub fn is_rising(frames: &[u32], n: usize) -> bool
 {
     let mut good = true;
     let mut lo = 0;
-    let mut i = 0;
-    while i < frames.len() {
-        let x = frames[i];
-        good = good & is_frame(x, lo, n);
-        lo = after(x);
-        i += 1;
+    for x in frames {
+        good = good & is_frame(*x, lo, n);
+        lo = after(*x);
     }
     good
 }

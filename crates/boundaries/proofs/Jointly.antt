@@ -1,5 +1,5 @@
 -- Joints: their cases, the run that a nucleus belongs to, and the walk over neighbouring nuclei. Assumes nothing.
-use Prim.Native.Nat.{ℕ, ◌+◌, ◌*◌, ◌≤◌, ◌<◌}
+use Prim.Native.Nat.{ℕ, ◌+◌, ◌-◌, ◌*◌, ◌≤◌, ◌<◌}
 use native.Mathlib.Omega.{arith}
 use native.Mathlib.Nat.{le_trans, le_of_lt}
 use mathlib.Core.Path.{◌≡◌, refl, sym, ap, subst, ◌∙◌}
@@ -7,6 +7,7 @@ use mathlib.Core.Bool.{Bool, true, false, not, ◌&&◌, cond}
 use mathlib.Core.List.{List, [], ◌∷◌, ◌++◌}
 use lib.ListN.{length, get_or, drop, length-append, length-drop}
 use lib.Dec.{ltb, eqb}
+use Rattle.std.specs.Prelude.{Option, None, Some}
 use lib.Ieee.{Float}
 use borrow.Author.Tests.{ltb-true, lt-ltb, le-ltb}
 use Rattle.lists.specs.Results.{cons_if, filter}
@@ -17,46 +18,41 @@ use Rattle.lists.proofs.Fill.{drop_step, filter_le, filter_append}
 use Rattle.lists.proofs.Entries.{each_map, each_filter}
 use Rattle.lists.proofs.Members.{strict_at, strict_get}
 use Rattle.smooth.specs.Extrema.{argmin_middle, shallow}
-use Rattle.runs.specs.Runs.{Span, InTrack}
+use Rattle.runs.specs.Runs.{InTrack}
+use Rattle.runs.specs.declared.voiced.Span.{Span}
 use Rattle.runs.specs.Near.{run_of, Answers}
 use Rattle.runs.specs.declared.near.Found.{Found}
-use Rattle.runs.specs.declared.near.Found.TheVariants.{At, Nothing}
 use Rattle.runs.proofs.Nearest.{run_of_answers, found_each}
+use Rattle.boundaries.specs.declared.taken.Kept.{Kept}
 use Rattle.boundaries.specs.Joints.{joint_by, joint, joints, inner, joints_inside}
 use Rattle.boundaries.specs.Taken.{AddedInTurn}
 use Rattle.boundaries.proofs.Cells.{add_none, add_then, Trying, trying_some, trying_end}
 use Rattle.boundaries.proofs.Turns.{In}
 
 -- the run that is found lies in the track
-pub found_within : (n : ℕ) (rs : List Span) (at k f l : ℕ) → InTrack n rs → run_of rs at ≡ At k f l → l < n
-found_within n rs at k f l w e = (found_each (λ r. (r.first ≤ r.last) × (r.last < n)) rs at k f l w (subst (Answers at rs) e (run_of_answers at rs))).1
+pub found_within : (n : ℕ) (rs : List Span) (at : ℕ) (f : Found) → InTrack n rs → run_of rs at ≡ Some f → f.run.last < n
+found_within n rs at f w e = (found_each (λ r. (r.first ≤ r.last) × (r.last < n)) rs at f w (subst (Answers at rs) e (run_of_answers at rs))).1
 
 -- ---- the cases of a joint
 module _ (level : List Float) (rs : List Span) (dip : Float) (a b : ℕ) where
-  pub joint_none : {js : List ℕ} → run_of rs a ≡ Nothing → js ≡ argmin_middle level a b ∷ [] → js ≡ joint level rs dip a b
+  pub joint_none : {js : List ℕ} → run_of rs a ≡ None → js ≡ argmin_middle level a b ∷ [] → js ≡ joint level rs dip a b
   unfolding joint
-  joint_none e g = g ∙ ap (λ (x : Found). joint_by level dip a b x (run_of rs b)) (sym e)
+  joint_none e g = rw e g
 
-  pub joint_lone : {js : List ℕ} (x f l : ℕ) → run_of rs a ≡ At x f l → run_of rs b ≡ Nothing → js ≡ argmin_middle level a b ∷ [] → js ≡ joint level rs dip a b
+  pub joint_lone : {js : List ℕ} {x : Found} → run_of rs a ≡ Some x → run_of rs b ≡ None → js ≡ argmin_middle level a b ∷ [] → js ≡ joint level rs dip a b
   unfolding joint
-  joint_lone x f l e d g = g ∙ ap (joint_by level dip a b (At x f l)) (sym d) ∙ ap (λ (z : Found). joint_by level dip a b z (run_of rs b)) (sym e)
+  joint_lone e d g = rw (e, d) g
 
-  both : (x f l y g m : ℕ) → run_of rs a ≡ At x f l → run_of rs b ≡ At y g m →
-      cond (not (eqb x y) && shallow level a b dip) ((l + 1) ∷ g ∷ []) (argmin_middle level a b ∷ []) ≡ joint level rs dip a b
+  pub joint_both : {x y : Found} → run_of rs a ≡ Some x → run_of rs b ≡ Some y →
+      joint level rs dip a b ≡ cond (not (eqb x.number y.number) && shallow level a b dip) ((x.run.last + 1) ∷ y.run.first ∷ []) (argmin_middle level a b ∷ [])
   unfolding joint
-  both x f l y g m e d = ap (joint_by level dip a b (At x f l)) (sym d) ∙ ap (λ (z : Found). joint_by level dip a b z (run_of rs b)) (sym e)
-
-  pub joint_low : {js : List ℕ} (x f l y g m : ℕ) → run_of rs a ≡ At x f l → run_of rs b ≡ At y g m → (not (eqb x y) && shallow level a b dip) ≡ false → js ≡ argmin_middle level a b ∷ [] → js ≡ joint level rs dip a b
-  joint_low x f l y g m e d c h = h ∙ sym (ap (λ (t : Bool). cond t ((l + 1) ∷ g ∷ []) (argmin_middle level a b ∷ [])) c) ∙ both x f l y g m e d
-
-  pub joint_break : (x f l y g m : ℕ) → run_of rs a ≡ At x f l → run_of rs b ≡ At y g m → (not (eqb x y) && shallow level a b dip) ≡ true → (l + 1) ∷ g ∷ [] ≡ joint level rs dip a b
-  joint_break x f l y g m e d c = sym (ap (λ (t : Bool). cond t ((l + 1) ∷ g ∷ []) (argmin_middle level a b ∷ [])) c) ∙ both x f l y g m e d
+  joint_both e d = rw (e, d)
 
 -- ---- the walk
 module _ (level : List Float) (rs : List Span) (dip : Float) (start end : ℕ) (ns : List ℕ) (i : ℕ) where
-  pub joints_on : i + 1 < length ns → joints_inside level rs dip start end (drop i ns) ≡ filter (inner start end) (joint level rs dip (get_or ns i 0) (get_or ns (i + 1) 0)) ++ joints_inside level rs dip start end (drop (i + 1) ns)
+  joints_next : i + 1 < length ns → joints_inside level rs dip start end (drop i ns) ≡ filter (inner start end) (joint level rs dip (get_or ns i 0) (get_or ns (i + 1) 0)) ++ joints_inside level rs dip start end (drop (i + 1) ns)
   unfolding joints_inside joints
-  joints_on h =
+  joints_next h =
       ap (λ (l : List ℕ). filter (inner start end) (joints level rs dip l)) (drop_step ns i 0 (omega arith) ∙ ap (λ (l : List ℕ). get_or ns i 0 ∷ l) (drop_step ns (i + 1) 0 h))
       ∙ filter_append (inner start end) (joint level rs dip (get_or ns i 0) (get_or ns (i + 1) 0)) (joints level rs dip (get_or ns (i + 1) 0 ∷ drop (i + 1 + 1) ns))
       ∙ ap (λ (l : List ℕ). filter (inner start end) (joint level rs dip (get_or ns i 0) (get_or ns (i + 1) 0)) ++ filter (inner start end) (joints level rs dip l)) (sym (drop_step ns (i + 1) 0 h))
@@ -73,9 +69,21 @@ module _ (level : List Float) (rs : List Span) (dip : Float) (start end : ℕ) (
       go (a ∷ []) g = refl
       go (a ∷ b ∷ l) g = absurd (many (length l) (omega arith))
 
+-- at the second of two neighbours
+joints_on : (level : List Float) (rs : List Span) (dip : Float) (start end : ℕ) (ns : List ℕ) (i : ℕ) → 1 ≤ i → i < length ns →
+    joints_inside level rs dip start end (drop (i - 1) ns) ≡ filter (inner start end) (joint level rs dip (get_or ns (i - 1) 0) (get_or ns i 0)) ++ joints_inside level rs dip start end (drop (i + 1 - 1) ns)
+joints_on level rs dip start end ns i past h =
+    let p : i - 1 + 1 ≡ i = omega arith in
+    let q : i - 1 + 1 ≡ i + 1 - 1 = omega arith in
+    joints_next level rs dip start end ns (i - 1) (omega arith)
+    ∙ ap (λ (j : ℕ). filter (inner start end) (joint level rs dip (get_or ns (i - 1) 0) (get_or ns j 0)) ++ joints_inside level rs dip start end (drop (i - 1 + 1) ns)) p
+    ∙ ap (λ (j : ℕ). filter (inner start end) (joint level rs dip (get_or ns (i - 1) 0) (get_or ns i 0)) ++ joints_inside level rs dip start end (drop j ns)) q
+
 -- nuclei that rise: neighbours, and the track
-pub nuclei_at : (n : ℕ) (ns : List ℕ) (i : ℕ) → StrictlyRises 0 n ns → i + 1 < length ns → (get_or ns i 0 ≤ get_or ns (i + 1) 0) × (get_or ns (i + 1) 0 < n)
-nuclei_at n ns i s h = (le_of_lt (strict_at 0 n ns s i h), strict_get 0 n ns (i + 1) h s)
+pub nuclei_at : (n : ℕ) (ns : List ℕ) (i : ℕ) → StrictlyRises 0 n ns → 1 ≤ i → i < length ns → (get_or ns (i - 1) 0 ≤ get_or ns i 0) × (get_or ns i 0 < n)
+nuclei_at n ns i s past h =
+    let p : i - 1 + 1 ≡ i = omega arith in
+    (le_of_lt (subst (λ (j : ℕ). get_or ns (i - 1) 0 < get_or ns j 0) p (strict_at 0 n ns s (i - 1) (omega arith))), strict_get 0 n ns i h s)
 
 module _ (start end at : ℕ) where
   only : (b : Bool) → inner start end at ≡ b → filter (inner start end) (at ∷ []) ≡ cons_if b at []
@@ -83,34 +91,33 @@ module _ (start end at : ℕ) where
   only b e = ap (λ (t : Bool). cons_if t at []) e
 
   -- a frame strictly inside the region is tried
-  pub tried_inside : {cap : ℕ} {m m' : List ℕ} {c c' : ℕ} → start < at → at < end → AddedInTurn cap (at ∷ []) m c m' c' → AddedInTurn cap (filter (inner start end) (at ∷ [])) m c m' c'
-  tried_inside {cap} {m} {m'} {c} {c'} h g a = subst (λ (xs : List ℕ). AddedInTurn cap xs m c m' c') (sym (only true (and_both (ltb start at) (ltb at end) (lt-ltb start at h) (lt-ltb at end g)))) a
+  pub tried_inside : {k k' : Kept} → start < at → at < end → AddedInTurn (at ∷ []) k k' → AddedInTurn (filter (inner start end) (at ∷ [])) k k'
+  tried_inside {k} {k'} h g a = subst (λ (xs : List ℕ). AddedInTurn xs k k') (sym (only true (and_both (ltb start at) (ltb at end) (lt-ltb start at h) (lt-ltb at end g)))) a
 
-module _ (start end at cap : ℕ) (m : List ℕ) (c : ℕ) where
-  none_inside : inner start end at ≡ false → AddedInTurn cap (filter (inner start end) (at ∷ [])) m c m c
-  none_inside e = subst (λ (xs : List ℕ). AddedInTurn cap xs m c m c) (sym (only start end at false e)) (add_none cap m c)
+  none_inside : (k : Kept) → inner start end at ≡ false → AddedInTurn (filter (inner start end) (at ∷ [])) k k
+  none_inside k e = subst (λ (xs : List ℕ). AddedInTurn xs k k) (sym (only false e)) (add_none k)
 
   -- another is not
-  pub left_out : at ≤ start → AddedInTurn cap (filter (inner start end) (at ∷ [])) m c m c
-  left_out h = none_inside (ap (λ (t : Bool). t && ltb at end) (le-ltb start at h))
+  pub left_out : (k : Kept) → at ≤ start → AddedInTurn (filter (inner start end) (at ∷ [])) k k
+  left_out k h = none_inside k (ap (λ (t : Bool). t && ltb at end) (le-ltb start at h))
 
-  pub right_out : start < at → end ≤ at → AddedInTurn cap (filter (inner start end) (at ∷ [])) m c m c
-  right_out g h = none_inside (ap (λ (t : Bool). t && ltb at end) (lt-ltb start at g) ∙ le-ltb at end h)
+  pub right_out : (k : Kept) → start < at → end ≤ at → AddedInTurn (filter (inner start end) (at ∷ [])) k k
+  right_out k g h = none_inside k (ap (λ (t : Bool). t && ltb at end) (lt-ltb start at g) ∙ le-ltb at end h)
 
 -- both edges of a break
-pub two_inside : (p : ℕ → Bool) (l f : ℕ) {cap : ℕ} {m m' m'' : List ℕ} {c c' c'' : ℕ} → AddedInTurn cap (filter p (l ∷ [])) m c m' c' → AddedInTurn cap (filter p (f ∷ [])) m' c' m'' c'' → AddedInTurn cap (filter p (l ∷ f ∷ [])) m c m'' c''
-two_inside p l f {cap} {m} {m'} {m''} {c} {c'} {c''} a b = subst (λ (xs : List ℕ). AddedInTurn cap xs m c m'' c'') (sym (filter_append p (l ∷ []) (f ∷ []))) (add_then a b)
+pub two_inside : (p : ℕ → Bool) (l f : ℕ) {k k' k'' : Kept} → AddedInTurn (filter p (l ∷ [])) k k' → AddedInTurn (filter p (f ∷ [])) k' k'' → AddedInTurn (filter p (l ∷ f ∷ [])) k k''
+two_inside p l f {k} {k'} {k''} a b = subst (λ (xs : List ℕ). AddedInTurn xs k k'') (sym (filter_append p (l ∷ []) (f ∷ []))) (add_then a b)
 
-module _ (level : List Float) (rs : List Span) (dip : Float) (start end : ℕ) (ns : List ℕ) (i : ℕ) {cap : ℕ} {whole m₀ m : List ℕ} {c₀ c : ℕ}
-    (t : Trying cap whole (joints_inside level rs dip start end (drop i ns)) m₀ c₀ m c) where
-  pub joints_step : i + 1 < length ns → {js m' : List ℕ} {c' : ℕ} → js ≡ joint level rs dip (get_or ns i 0) (get_or ns (i + 1) 0) → AddedInTurn cap (filter (inner start end) js) m c m' c' →
-      Trying cap whole (joints_inside level rs dip start end (drop (i + 1) ns)) m₀ c₀ m' c'
-  joints_step h {js} {m'} {c'} e a =
-      trying_some (subst (λ (rest : List ℕ). Trying cap whole rest m₀ c₀ m c) (joints_on level rs dip start end ns i h) t)
-      (subst (λ (xs : List ℕ). AddedInTurn cap (filter (inner start end) xs) m c m' c') e a)
+module _ (level : List Float) (rs : List Span) (dip : Float) (start end : ℕ) (ns : List ℕ) (i : ℕ) (past : 1 ≤ i) {whole : List ℕ} {old k : Kept}
+    (t : Trying whole (joints_inside level rs dip start end (drop (i - 1) ns)) old k) where
+  pub joints_step : i < length ns → {js : List ℕ} {k' : Kept} → js ≡ joint level rs dip (get_or ns (i - 1) 0) (get_or ns i 0) → AddedInTurn (filter (inner start end) js) k k' →
+      Trying whole (joints_inside level rs dip start end (drop (i + 1 - 1) ns)) old k'
+  joints_step h {js} {k'} e a =
+      trying_some (subst (λ (rest : List ℕ). Trying whole rest old k) (joints_on level rs dip start end ns i past h) t)
+      (subst (λ (xs : List ℕ). AddedInTurn (filter (inner start end) xs) k k') e a)
 
-  pub joints_end : length ns ≤ i + 1 → AddedInTurn cap whole m₀ c₀ m c
-  joints_end h = trying_end (subst (λ (rest : List ℕ). Trying cap whole rest m₀ c₀ m c) (joints_over level rs dip start end ns i h) t)
+  pub joints_end : length ns ≤ i → AddedInTurn whole old k
+  joints_end h = trying_end (subst (λ (rest : List ℕ). Trying whole rest old k) (joints_over level rs dip start end ns (i - 1) (omega arith)) t)
 
 -- ---- the joints lie inside the region, and are few
 pub joints_in : (level : List Float) (rs : List Span) (dip : Float) (start end : ℕ) (ns : List ℕ) → Each (In start end) (joints_inside level rs dip start end ns)
@@ -129,10 +136,10 @@ module _ (level : List Float) (rs : List Span) (dip : Float) where
       pick true x y z = omega arith
       pick false x y z = omega arith
 
-      go : (x y : Found) → length (joint_by level dip a b x y) ≤ 2
-      go (At x f l) (At y g m) = pick (not (eqb x y) && shallow level a b dip) (l + 1) g (argmin_middle level a b)
-      go (At x f l) Nothing = omega arith
-      go Nothing y = omega arith
+      go : (x y : Option Found) → length (joint_by level dip a b x y) ≤ 2
+      go (Some x) (Some y) = pick (not (eqb x.number y.number) && shallow level a b dip) (x.run.last + 1) y.run.first (argmin_middle level a b)
+      go (Some x) None = omega arith
+      go None y = omega arith
 
   joints_few : (ns : List ℕ) → length (joints level rs dip ns) ≤ 2 * length ns
   unfolding joints

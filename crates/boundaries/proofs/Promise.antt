@@ -27,7 +27,7 @@ use Rattle.smooth.specs.declared.extrema.Extremum.TheVariants.{Min}
 use Rattle.region.specs.Speech.{speech_at, threshold_of, last_of}
 use Rattle.region.specs.declared.Settings.{Settings}
 use Rattle.region.specs.declared.Bounds.{Bounds}
-use Rattle.runs.specs.Runs.{Span}
+use Rattle.runs.specs.declared.voiced.Span.{Span}
 use Rattle.runs.specs.Syllables.{syllable_runs}
 use Rattle.boundaries.specs.Keeping.{add_all}
 use Rattle.boundaries.specs.Joints.{joints_inside}

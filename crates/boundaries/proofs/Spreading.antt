@@ -1,119 +1,101 @@
--- Marks spread over the frames that pass a test: one frame, one test after the other, creaks and long spans. Assumes nothing.
+-- Marks spread over the frames that pass a test: the frames from one to another, one test after the other, creaks and long spans. Assumes nothing.
 use Prim.Native.Nat.{ℕ, zero, suc, ◌+◌, ◌-◌, ◌≤◌, ◌<◌}
 use native.Mathlib.Omega.{arith}
 use mathlib.Core.Path.{◌≡◌, refl, sym, ap, subst, ◌∙◌, fun_ext}
-use mathlib.Core.Bool.{Bool, true, false, ◌&&◌, ◌||◌, cond, or-false}
-use mathlib.Core.List.{List, [], ◌∷◌}
-use lib.ListN.{length, get_or, set, drop, replicate, length-set, length-drop, drop_of_length-le}
-use lib.Seq.{get_or-set_same, get_or-set_other}
-use lib.Dec.{ltb, leb, eqb}
-use borrow.Author.Tests.{ltb-true, leb-true, lt-ltb, le-ltb, le-leb, eqb-true, eqb-false}
-use Rattle.lists.specs.Results.{filter, cons_if}
-use Rattle.lists.proofs.Tests.{test_iff, and_cases, and_both}
+use mathlib.Core.Bool.{Bool, true, false, ◌&&◌, ◌||◌, or-false, or-true, or_assoc}
+use mathlib.Core.List.{List, [], ◌∷◌, ◌++◌}
+use lib.ListN.{length, get_or, take, drop, replicate, length-append, length-drop, length-replicate, drop_of_length-le, get_or-append, get_or-replicate}
+use lib.Seq.{get_or-append_right}
+use Rattle.std.proofs.lemmas.List.{length-take-le, get_or-take, get_or-drop}
+use lib.Dec.{ltb, leb}
+use borrow.Author.Tests.{ltb-true, ltb-false, leb-true, leb-false, lt-ltb, le-ltb, le-leb}
+use Rattle.lists.specs.Results.{filter}
+use Rattle.lists.proofs.Tests.{test_iff}
 use Rattle.lists.specs.Sorted.{StrictlyRises}
 use Rattle.lists.proofs.Fill.{drop_step}
 use Rattle.lists.proofs.Members.{strict_at, strict_get}
-use Rattle.lists.proofs.Marking.{flag_is}
 use Rattle.smooth.specs.Extrema.{inside}
-use Rattle.runs.specs.Runs.{Span, spans}
-use Rattle.region.specs.Speech.{marked}
-use Rattle.boundaries.specs.Taken.{Spread}
+use lib.Ieee.{Float}
+use Rattle.lists.specs.By.{Each}
+use Rattle.lists.proofs.Entries.{each_at}
+use Rattle.runs.specs.declared.voiced.Span.{Span}
+use Rattle.runs.specs.Syllables.{dropouts}
+use Rattle.runs.proofs.Spacing.{dropout_wide}
+use Rattle.boundaries.specs.Taken.{marked, Spread}
 use Rattle.boundaries.specs.Edges.{filled, in_creak}
 use Rattle.boundaries.specs.Minima.{in_long_span}
 
--- ---- a walk that marks frames: the test that is left to spread
-pub record Spreading (whole rest : ℕ → Bool) (m₀ m : List ℕ) : Type 0 where
-  pub size : length m ≡ length m₀
-  pub left : length m₀ ≡ 2048 → (x : ℕ) → cond (rest x) 1 (get_or m x 0) ≡ cond (whole x) 1 (get_or m₀ x 0)
+-- ---- a walk that marks frames: those that are marked, and the test that is left to spread, are the whole test
+pub record Spreading (whole rest : ℕ → Bool) (m : List Bool) : Type 0 where
+  pub size : length m ≡ 2048
+  pub left : (x : ℕ) → (marked m x || rest x) ≡ whole x
 
-twice : (h r : Bool) (n : ℕ) → cond r 1 (cond h 1 n) ≡ cond (h || r) 1 n
-twice true true n = refl
-twice true false n = refl
-twice false r n = refl
+-- no frame is marked
+pub unmarked : (n i : ℕ) → marked (replicate n false) i ≡ false
+unmarked zero i = refl
+unmarked (suc n) zero = refl
+unmarked (suc n) (suc i) = unmarked n i
 
-pub spreading_start : (t : ℕ → Bool) (m : List ℕ) → Spreading t t m m
-spreading_start t m = record { size = refl; left = λ z x. refl }
+pub spreading_start : (t : ℕ → Bool) → Spreading t t (replicate 2048 false)
+spreading_start t = record { size = refl; left = λ x. ap (λ (b : Bool). b || t x) (unmarked 2048 x) }
 
-pub spreading_on : {whole rest here : ℕ → Bool} (rest' : ℕ → Bool) {m₀ m m' : List ℕ} → ((x : ℕ) → rest x ≡ (here x || rest' x)) → Spread here m m' → Spreading whole rest m₀ m → Spreading whole rest' m₀ m'
-spreading_on {whole} {rest} {here} rest' {m₀} {m} {m'} e s f = record {
+pub spreading_on : {whole rest here : ℕ → Bool} (rest' : ℕ → Bool) {m m' : List Bool} → ((x : ℕ) → rest x ≡ (here x || rest' x)) → Spread here m m' → Spreading whole rest m → Spreading whole rest' m'
+spreading_on {whole} {rest} {here} rest' {m} {m'} e s f = record {
   size = s.size ∙ f.size;
-  left = λ z x.
-      ap (λ (n : ℕ). cond (rest' x) 1 n) (s.spreads (f.size ∙ z) x) ∙ twice (here x) (rest' x) (get_or m x 0) ∙ sym (ap (λ (b : Bool). cond b 1 (get_or m x 0)) (e x)) ∙ f.left z x;
+  left = λ x.
+      ap (λ (b : Bool). b || rest' x) (s.spreads x) ∙ or_assoc (marked m x) (here x) (rest' x) ∙ sym (ap (λ (b : Bool). marked m x || b) (e x)) ∙ f.left x;
 }
 
-pub spreading_end : {whole rest : ℕ → Bool} {m₀ m : List ℕ} → ((x : ℕ) → rest x ≡ false) → Spreading whole rest m₀ m → Spread whole m₀ m
-spreading_end {whole} {rest} {m₀} {m} e f = record { size = f.size; spreads = λ z x. sym (ap (λ (b : Bool). cond b 1 (get_or m x 0)) (e x)) ∙ f.left z x }
+pub spreading_same : {whole rest rest' : ℕ → Bool} {m : List Bool} → ((x : ℕ) → rest x ≡ rest' x) → Spreading whole rest m → Spreading whole rest' m
+spreading_same {whole} {rest} {rest'} {m} e f = record { size = f.size; left = λ x. ap (λ (b : Bool). marked m x || b) (sym (e x)) ∙ f.left x }
 
-pub spread_same : {t u : ℕ → Bool} {m m' : List ℕ} → ((x : ℕ) → t x ≡ u x) → Spread t m m' → Spread u m m'
-spread_same {t} {u} {m} {m'} e s = record { size = s.size; spreads = λ z x. s.spreads z x ∙ ap (λ (b : Bool). cond b 1 (get_or m x 0)) (e x) }
+pub spreading_end : {whole rest : ℕ → Bool} {m : List Bool} → ((x : ℕ) → rest x ≡ false) → Spreading whole rest m → marked m ≡ whole
+spreading_end {whole} {rest} {m} e f = fun_ext (λ x. sym (ap (λ (b : Bool). marked m x || b) (e x) ∙ or-false (marked m x)) ∙ f.left x)
 
-pub spread_none : {t : ℕ → Bool} (m : List ℕ) → ((x : ℕ) → t x ≡ false) → Spread t m m
-spread_none {t} m e = record { size = refl; spreads = λ z x. sym (ap (λ (b : Bool). cond b 1 (get_or m x 0)) (e x)) }
+-- the frames from a on and before b, all marked
+module _ (m : List Bool) (a b : ℕ) (h : a ≤ b) (g : b ≤ length m) where
+  abbrev part : List Bool
+  part = take a m ++ (replicate (b - a) true ++ drop (b - a) (drop a m))
 
--- ---- one frame, and the frames from i on and before b
-pub spread_one : (m : List ℕ) (i : ℕ) → i < 2048 → Spread (eqb i) m (set m i 1)
-spread_one m i h = record { size = length-set m i 1; spreads = λ z x. go x (omega arith) (eqb i x) refl }
-  where
-    go : (x : ℕ) → i < length m → (b : Bool) → eqb i x ≡ b → get_or (set m i 1) x 0 ≡ cond b 1 (get_or m x 0)
-    go x l true e = subst (λ (z : ℕ). get_or (set m i 1) z 0 ≡ 1) (eqb-true i x e) (get_or-set_same m i 1 0 l)
-    go x l false e = get_or-set_other m i x 1 0 (λ z. eqb-false i x e (sym z))
+  before : length (take a m) ≡ a
+  before = length-take-le a m (omega arith)
 
-pub inside_on : (i b : ℕ) → i < b → (x : ℕ) → inside i b x ≡ (eqb i x || inside (i + 1) b x)
-inside_on i b h x = go (eqb i x) refl
-  where
-    go : (t : Bool) → eqb i x ≡ t → inside i b x ≡ (t || inside (i + 1) b x)
-    go true e = let q = eqb-true i x e in and_both (leb i x) (ltb x b) (le-leb i x (omega arith)) (lt-ltb x b (omega arith))
-    go false e =
-        let n = eqb-false i x e in
-        test_iff (inside i b x) (inside (i + 1) b x)
-        (λ p. let c = and_cases (leb i x) (ltb x b) p in and_both (leb (i + 1) x) (ltb x b) (le-leb (i + 1) x (above i x n (leb-true i x c.0))) c.1)
-        (λ p. let c = and_cases (leb (i + 1) x) (ltb x b) p in and_both (leb i x) (ltb x b) (le-leb i x (under i x (leb-true (i + 1) x c.0))) c.1)
-      where
-        above : (i x : ℕ) → (i ≡ x → ⊥) → i ≤ x → i + 1 ≤ x
-        above i x n h = omega arith
+  part_at : (x : ℕ) → marked part x ≡ (marked m x || inside a b x)
+  part_at x = go (leb a x) refl (ltb x b) refl
+    where
+      past : a ≤ x → marked part x ≡ marked (replicate (b - a) true ++ drop (b - a) (drop a m)) (x - a)
+      past p = get_or-append_right (take a m) (replicate (b - a) true ++ drop (b - a) (drop a m)) x false (omega (arith, before)) ∙ ap (λ (n : ℕ). marked (replicate (b - a) true ++ drop (b - a) (drop a m)) (x - n)) before
 
-        under : (i x : ℕ) → i + 1 ≤ x → i ≤ x
-        under i x h = omega arith
+      go : (p : Bool) → leb a x ≡ p → (q : Bool) → ltb x b ≡ q → marked part x ≡ (marked m x || (p && q))
+      go false e q f = get_or-append (take a m) (replicate (b - a) true ++ drop (b - a) (drop a m)) false x (omega (arith, before, leb-false a x e)) ∙ get_or-take a m x false (leb-false a x e) ∙ sym (or-false (marked m x))
+      go true e true f =
+          past (leb-true a x e)
+          ∙ get_or-append (replicate (b - a) true) (drop (b - a) (drop a m)) false (x - a) (rw length-replicate (omega (arith, leb-true a x e, ltb-true x b f)))
+          ∙ get_or-replicate (b - a) (x - a) true false (omega (arith, leb-true a x e, ltb-true x b f)) ∙ sym (or-true (marked m x))
+      go true e false f =
+          let k : a + (b - a + (x - a - (b - a))) ≡ x = omega (arith, ltb-false x b f) in
+          past (leb-true a x e)
+          ∙ get_or-append_right (replicate (b - a) true) (drop (b - a) (drop a m)) (x - a) false (rw length-replicate (omega (arith, ltb-false x b f)))
+          ∙ ap (λ (n : ℕ). marked (drop (b - a) (drop a m)) (x - a - n)) (length-replicate (b - a) true)
+          ∙ get_or-drop (b - a) (drop a m) (x - a - (b - a)) false ∙ get_or-drop a m (b - a + (x - a - (b - a))) false ∙ ap (marked m) k ∙ sym (or-false (marked m x))
 
-pub inside_over : (i b : ℕ) → b ≤ i → (x : ℕ) → inside i b x ≡ false
-inside_over i b h x = go (leb i x) refl
-  where
-    go : (t : Bool) → leb i x ≡ t → (t && ltb x b) ≡ false
-    go true e = le-ltb x b (omega (arith, leb-true i x e))
-    go false e = refl
+  -- how many they are
+  pub part_length : length (take (b - a) (drop a m)) ≡ b - a
+  part_length = length-take-le (b - a) (drop a m) (rw length-drop (omega arith))
+
+  pub spread_part : {p : List Bool} → p ≡ replicate (b - a) true → Spread (inside a b) m (take a m ++ (p ++ drop (b - a) (drop a m)))
+  spread_part e = rw e (record { size = simp (length-append, before, length-replicate, length-drop) (omega arith); spreads = part_at })
 
 -- ---- creaks
-abbrev creaks_in : (ℕ → Bool) → List Span → ℕ → Bool
+abbrev pub creaks_in : (ℕ → Bool) → List Span → ℕ → Bool
 creaks_in t gs = in_creak (filter (filled t) gs)
 
-creaks_split : (t : ℕ → Bool) (g : Span) (gs : List Span) (x : ℕ) → creaks_in t (g ∷ gs) x ≡ (creaks_in t (g ∷ []) x || creaks_in t gs x)
-unfolding filter in_creak
-creaks_split t g gs x = go (filled t g)
-  where
-    more : (a b : Bool) → (a || b) ≡ ((a || false) || b)
-    more true b = refl
-    more false b = refl
+abbrev gap : List Span → ℕ → Span
+gap gs i = get_or gs i (record { first = 0; last = 0 })
 
-    go : (p : Bool) → in_creak (cons_if p g (filter (filled t) gs)) x ≡ (in_creak (cons_if p g []) x || in_creak (filter (filled t) gs) x)
-    go true = more (ltb g.first x && leb x g.last) (in_creak (filter (filled t) gs) x)
-    go false = refl
-
-module _ (t : ℕ → Bool) (bs zs : List ℕ) (i : ℕ) where
-  pub creaks_on : i < length bs → i < length zs → (x : ℕ) →
-      creaks_in t (spans (drop i bs) (drop i zs)) x ≡ (creaks_in t (spans (get_or bs i 0 ∷ []) (get_or zs i 0 ∷ [])) x || creaks_in t (spans (drop (i + 1) bs) (drop (i + 1) zs)) x)
-  unfolding spans
-  creaks_on h k x = rw (drop_step bs i 0 h, drop_step zs i 0 k) (creaks_split t (record { first = get_or bs i 0; last = get_or zs i 0 }) (spans (drop (i + 1) bs) (drop (i + 1) zs)) x)
-
-  pub creaks_over : length bs ≤ i → (x : ℕ) → creaks_in t (spans (drop i bs) (drop i zs)) x ≡ false
-  unfolding spans filter in_creak
-  creaks_over h x = rw (drop_of_length-le bs h)
-
-module _ (t : ℕ → Bool) (b z : ℕ) where
-  pub one_creak : filled t (record { first = b; last = z }) ≡ true → (x : ℕ) → inside (b + 1) (z + 1) x ≡ creaks_in t (spans (b ∷ []) (z ∷ [])) x
-  unfolding spans filter in_creak
-  one_creak e x =
-      rw e
-      (ap (λ (p : Bool). p && ltb x (z + 1)) (leb_ltb b x) ∙ ap (λ (p : Bool). ltb b x && p) (ltb_leb x z) ∙ sym (or-false (ltb b x && leb x z)))
+module _ (t : ℕ → Bool) (gs : List Span) (i : ℕ) where
+  creak_here : (x : ℕ) → inside ((gap gs i).first + 1) ((gap gs i).last + 1) x ≡ (ltb (gap gs i).first x && leb x (gap gs i).last)
+  creak_here x = ap (λ (p : Bool). p && ltb x ((gap gs i).last + 1)) (leb_ltb (gap gs i).first x) ∙ ap (λ (p : Bool). ltb (gap gs i).first x && p) (ltb_leb x (gap gs i).last)
     where
       leb_ltb : (b x : ℕ) → leb (b + 1) x ≡ ltb b x
       leb_ltb b x = test_iff (leb (b + 1) x) (ltb b x) (λ p. lt-ltb b x (omega (arith, leb-true (b + 1) x p))) (λ p. le-leb (b + 1) x (omega (arith, ltb-true b x p)))
@@ -121,9 +103,21 @@ module _ (t : ℕ → Bool) (b z : ℕ) where
       ltb_leb : (x z : ℕ) → ltb x (z + 1) ≡ leb x z
       ltb_leb x z = test_iff (ltb x (z + 1)) (leb x z) (λ p. le-leb x z (omega (arith, ltb-true x (z + 1) p))) (λ p. lt-ltb x (z + 1) (omega (arith, leb-true x z p)))
 
-  pub no_creak : filled t (record { first = b; last = z }) ≡ false → (x : ℕ) → creaks_in t (spans (b ∷ []) (z ∷ [])) x ≡ false
-  unfolding spans filter in_creak
-  no_creak e x = rw e
+  pub creaks_yes : i < length gs → filled t (gap gs i) ≡ true → (x : ℕ) → creaks_in t (drop i gs) x ≡ (inside ((gap gs i).first + 1) ((gap gs i).last + 1) x || creaks_in t (drop (i + 1) gs) x)
+  unfolding filter in_creak
+  creaks_yes h e x = rw (drop_step gs i (record { first = 0; last = 0 }) h, e) (ap (λ (p : Bool). p || creaks_in t (drop (i + 1) gs) x) (sym (creak_here x)))
+
+  pub creaks_no : i < length gs → filled t (gap gs i) ≡ false → (x : ℕ) → creaks_in t (drop i gs) x ≡ creaks_in t (drop (i + 1) gs) x
+  unfolding filter
+  creaks_no h e x = rw (drop_step gs i (record { first = 0; last = 0 }) h, e)
+
+  pub creaks_over : length gs ≤ i → (x : ℕ) → creaks_in t (drop i gs) x ≡ false
+  unfolding filter in_creak
+  creaks_over h x = rw (drop_of_length-le gs h)
+
+-- a dropout of a track
+pub gap_wide : (pitch : List Float) {gs : List Span} → gs ≡ dropouts pitch → (i : ℕ) → i < length gs → ((gap gs i).first + 3 < (gap gs i).last) × ((gap gs i).last < length pitch)
+gap_wide pitch {gs} e i h = each_at (λ g. (g.first + 3 < g.last) × (g.last < length pitch)) gs (record { first = 0; last = 0 }) (subst (Each (λ g. (g.first + 3 < g.last) × (g.last < length pitch))) (sym e) (dropout_wide pitch)) i h
 
 -- ---- long spans
 module _ (kept : List ℕ) (i : ℕ) where
@@ -158,32 +152,22 @@ module _ (kept : List ℕ) (i : ℕ) (past : 1 ≤ i) where
       ∙ ap (λ (j : ℕ). (ltb 35 (get_or kept j 0 - get_or kept (i - 1) 0) && inside (get_or kept (i - 1) 0 + 1) (get_or kept j 0) x) || in_long_span (drop (i - 1 + 1) kept) x) p
       ∙ ap (λ (j : ℕ). (ltb 35 (get_or kept i 0 - get_or kept (i - 1) 0) && inside (get_or kept (i - 1) 0 + 1) (get_or kept i 0) x) || in_long_span (drop j kept) x) q
 
-  pub spans_long : {whole : ℕ → Bool} {m₀ m : List ℕ} → i < length kept → {m' : List ℕ} → 35 < get_or kept i 0 - get_or kept (i - 1) 0 → Spread (inside (get_or kept (i - 1) 0 + 1) (get_or kept i 0)) m m' →
-      Spreading whole (in_long_span (drop (i - 1) kept)) m₀ m → Spreading whole (in_long_span (drop (i + 1 - 1) kept)) m₀ m'
-  spans_long {whole} {m₀} {m} h {m'} g s f =
+  pub spans_long : {whole : ℕ → Bool} {m : List Bool} → i < length kept → {m' : List Bool} → 35 < get_or kept i 0 - get_or kept (i - 1) 0 → Spread (inside (get_or kept (i - 1) 0 + 1) (get_or kept i 0)) m m' →
+      Spreading whole (in_long_span (drop (i - 1) kept)) m → Spreading whole (in_long_span (drop (i + 1 - 1) kept)) m'
+  spans_long h g s f =
       spreading_on (in_long_span (drop (i + 1 - 1) kept))
       (λ x. here h x ∙ ap (λ (b : Bool). (b && inside (get_or kept (i - 1) 0 + 1) (get_or kept i 0) x) || in_long_span (drop (i + 1 - 1) kept) x) (lt-ltb 35 (get_or kept i 0 - get_or kept (i - 1) 0) g)) s f
 
-  pub spans_short : {whole : ℕ → Bool} {m₀ m : List ℕ} → i < length kept → get_or kept i 0 - get_or kept (i - 1) 0 ≤ 35 → Spreading whole (in_long_span (drop (i - 1) kept)) m₀ m → Spreading whole (in_long_span (drop (i + 1 - 1) kept)) m₀ m
-  spans_short {whole} {m₀} {m} h g f =
-      spreading_on (in_long_span (drop (i + 1 - 1) kept))
-      (λ x. here h x ∙ ap (λ (b : Bool). (b && inside (get_or kept (i - 1) 0 + 1) (get_or kept i 0) x) || in_long_span (drop (i + 1 - 1) kept) x) (le-ltb 35 (get_or kept i 0 - get_or kept (i - 1) 0) g))
-      (spread_none {t = λ x. false} m (λ x. refl)) f
+  pub spans_short : {whole : ℕ → Bool} {m : List Bool} → i < length kept → get_or kept i 0 - get_or kept (i - 1) 0 ≤ 35 → Spreading whole (in_long_span (drop (i - 1) kept)) m → Spreading whole (in_long_span (drop (i + 1 - 1) kept)) m
+  spans_short h g f =
+      spreading_same
+      (λ x. here h x ∙ ap (λ (b : Bool). (b && inside (get_or kept (i - 1) 0 + 1) (get_or kept i 0) x) || in_long_span (drop (i + 1 - 1) kept) x) (le-ltb 35 (get_or kept i 0 - get_or kept (i - 1) 0) g)) f
 
-  pub spans_end : {whole : ℕ → Bool} {m₀ m : List ℕ} → length kept ≤ i → Spreading whole (in_long_span (drop (i - 1) kept)) m₀ m → Spread whole m₀ m
-  spans_end {whole} {m₀} {m} h f = spreading_end (spans_over kept (i - 1) (omega arith)) f
+  pub spans_end : {whole : ℕ → Bool} {m : List Bool} → length kept ≤ i → Spreading whole (in_long_span (drop (i - 1) kept)) m → marked m ≡ whole
+  spans_end h f = spreading_end (spans_over kept (i - 1) (omega arith)) f
 
 -- neighbours of a list that rises
 pub rise_at : (kept : List ℕ) → StrictlyRises 0 2049 kept → (i : ℕ) → 1 ≤ i → i < length kept → (get_or kept (i - 1) 0 < get_or kept i 0) × (get_or kept i 0 < 2049)
 rise_at kept s i past h =
     let p : i - 1 + 1 ≡ i = omega arith in
     (subst (λ (j : ℕ). get_or kept (i - 1) 0 < get_or kept j 0) p (strict_at 0 2049 kept s (i - 1) (omega arith)), strict_get 0 2049 kept i h s)
-
--- ---- marks that were none
-pub get_or_zeros : (n i : ℕ) → ◌≡◌ {A = ℕ} (get_or (replicate n 0) i 0) 0
-get_or_zeros zero i = refl
-get_or_zeros (suc n) zero = refl
-get_or_zeros (suc n) (suc i) = get_or_zeros n i
-
-pub spread_flags : {t : ℕ → Bool} {m : List ℕ} → Spread t (replicate 2048 0) m → marked m ≡ t
-spread_flags {t} {m} s = fun_ext (λ x. ap (λ (v : ℕ). eqb v 1) (s.spreads refl x ∙ ap (λ (n : ℕ). cond (t x) 1 n) (get_or_zeros 2048 x)) ∙ flag_is (t x))

@@ -2,20 +2,20 @@
 use Prim.Native.Nat.{ℕ, zero, suc, ◌+◌, ◌-◌, ◌≤◌, ◌<◌, min}
 use native.Mathlib.Omega.{arith}
 use mathlib.Core.Path.{◌≡◌, refl, sym, ap, subst, ◌∙◌}
-use mathlib.Core.Bool.{Bool, true, false, not, ◌&&◌, cond, beq}
-use mathlib.Core.List.{List, [], ◌∷◌, map, map-map}
-use lib.ListN.{length, get_or, take, drop, length-map, drop_of_length-le}
+use mathlib.Core.Bool.{Bool, true, false, not, ◌&&◌, cond}
+use mathlib.Core.List.{List, [], ◌∷◌, ◌++◌, map, map-map, append-nil}
+use lib.ListN.{length, get_or, drop, length-map, drop_of_length-le}
 use lib.Dec.{T}
-use lib.Ieee.{Float, nan, inf, fin, binary32, fits, sub, unlike}
+use lib.Ieee.{Float, nan, inf, fin, binary32, fits, sub}
 use lib.Ieee.Fits.{sub-fits, cond-fits}
 use lib.Ieee.Scale.{finite}
 use Rattle.floats.specs.Plain.{zero_f, magnitude, or_zero}
-use Rattle.lists.specs.Results.{keep, filter, Listed}
+use Rattle.lists.specs.Results.{keep, filter}
 use Rattle.lists.specs.By.{Each}
 use Rattle.lists.specs.Sorted.{sorted}
 use Rattle.lists.specs.Candidates.{Candidate, key_of, frame_in, in_turn, Sound}
-use Rattle.lists.proofs.Fill.{drop_step, Filling, fill_start, fill_end, keep_step, keep_over, keep_fits, filter_step, filter_over, filter_le, listed_take}
-use Rattle.lists.proofs.Entries.{each_map, each_of_map, each_kept}
+use Rattle.lists.proofs.Fill.{drop_step, keep_step, keep_over, keep_fits, filter_step, filter_over, filter_le}
+use Rattle.lists.proofs.Entries.{each_map, each_at, each_of_map, each_kept}
 use Rattle.lists.proofs.Members.{each_keep, strict_each}
 use Rattle.lists.proofs.Sorting.{sorted_is}
 use Rattle.lists.proofs.Turns.{keys_in_turn, turn_each}
@@ -24,25 +24,15 @@ use Rattle.smooth.specs.declared.extrema.Extremum.TheVariants.{Min}
 use Rattle.smooth.proofs.Stretches.{extrema_rise}
 use Rattle.region.specs.Speech.{speech_at}
 use Rattle.runs.specs.Runs.{voiced}
-use Rattle.boundaries.specs.Taken.{AddedInTurn}
+use Rattle.runs.proofs.Pushing.{push_room, push_on}
+use Rattle.boundaries.specs.declared.taken.Kept.{Kept}
+use Rattle.boundaries.specs.Taken.{AddedInTurn, Keyed}
 use Rattle.boundaries.specs.Edges.{between, changed, jump, loud_beside, pause_edge, pause_edges, voicing_edge, voicing_edges}
 use Rattle.boundaries.specs.Minima.{prominence_at, minimum, in_long_span, minima}
 use Rattle.boundaries.proofs.Cells.{Trying, trying_some, trying_end}
 
 pub jump_same : (v w x y : Float) → v ≡ w → x ≡ y → jump v x ≡ jump w y
 jump_same v w x y p q = ap (λ (a : Float). jump a x) p ∙ ap (jump w) q
-
-pub differs : (a b x y : Bool) → a ≡ x → b ≡ y → not (beq a b) ≡ unlike x y
-differs a b x y p q = rw (p, q) (go x y)
-  where
-    go : (x y : Bool) → not (beq x y) ≡ unlike x y
-    go true true = refl
-    go true false = refl
-    go false true = refl
-    go false false = refl
-
-pub changed_is : (t : ℕ → Bool) (i : ℕ) → not (beq (t (i - 1)) (t i)) ≡ changed t i
-changed_is t i = differs (t (i - 1)) (t i) (t (i - 1)) (t i) refl refl
 
 -- ---- the frames of keys, tried one after the other
 pub frame_at : (keys : List ℕ) → Each (λ f. f ≤ 2048) (map frame_in keys) → (i : ℕ) → i < length keys → frame_in (get_or keys i 0) ≤ 2048
@@ -56,74 +46,72 @@ frame_at (k ∷ keys) h (suc i) g = frame_at keys h.1 i (less i (length keys) g)
     less : (i n : ℕ) → suc i < suc n → i < n
     less i n g = omega arith
 
-module _ (keys : List ℕ) (i : ℕ) {cap : ℕ} {whole m₀ m : List ℕ} {c₀ c : ℕ} (t : Trying cap whole (map frame_in (drop i keys)) m₀ c₀ m c) where
-  pub keys_on : i < length keys → {f : ℕ} {m' : List ℕ} {c' : ℕ} → f ≡ frame_in (get_or keys i 0) → AddedInTurn cap (f ∷ []) m c m' c' → Trying cap whole (map frame_in (drop (i + 1) keys)) m₀ c₀ m' c'
-  keys_on h {f} {m'} {c'} e a =
-      trying_some (subst (λ (rest : List ℕ). Trying cap whole rest m₀ c₀ m c) (ap (map frame_in) (drop_step keys i 0 h)) t)
-      (subst (λ (x : ℕ). AddedInTurn cap (x ∷ []) m c m' c') e a)
+module _ (keys : List ℕ) (i : ℕ) {whole : List ℕ} {old k : Kept} (t : Trying whole (map frame_in (drop i keys)) old k) where
+  pub keys_on : i < length keys → {f : ℕ} {k' : Kept} → f ≡ frame_in (get_or keys i 0) → AddedInTurn (f ∷ []) k k' → Trying whole (map frame_in (drop (i + 1) keys)) old k'
+  keys_on h {f} {k'} e a =
+      trying_some (subst (λ (rest : List ℕ). Trying whole rest old k) (ap (map frame_in) (drop_step keys i 0 h)) t)
+      (subst (λ (x : ℕ). AddedInTurn (x ∷ []) k k') e a)
 
-  pub keys_end : length keys ≤ i → AddedInTurn cap whole m₀ c₀ m c
-  keys_end h = trying_end (subst (λ (rest : List ℕ). Trying cap whole rest m₀ c₀ m c) (ap (map frame_in) (drop_of_length-le keys h)) t)
+  pub keys_end : length keys ≤ i → AddedInTurn whole old k
+  keys_end h = trying_end (subst (λ (rest : List ℕ). Trying whole rest old k) (ap (map frame_in) (drop_of_length-le keys h)) t)
 
 -- ---- the keys of frames strictly inside the region
-module _ (t : ℕ → Bool) (f : ℕ → ℕ) (end : ℕ) {whole out₀ out : List ℕ} {n i : ℕ} where
-  pub walk_yes : i < end → t i ≡ true → Filling whole (map f (keep t i (end - i))) out₀ out n → Filling whole (f i ∷ map f (keep t (i + 1) (end - (i + 1)))) out₀ out n
-  walk_yes h e g = rw (keep_step t i end h, e) at g
+-- the keys so far, with those of the frames from i on, are the keys of all
+abbrev pub Keying : (ℕ → Bool) → (ℕ → ℕ) → List ℕ → ℕ → ℕ → ℕ → Type 0
+Keying t f keys start end i = keys ++ map f (keep t i (end - i)) ≡ map f (between start end t)
 
-  pub walk_no : i < end → t i ≡ false → Filling whole (map f (keep t i (end - i))) out₀ out n → Filling whole (map f (keep t (i + 1) (end - (i + 1)))) out₀ out n
-  walk_no h e g = rw (keep_step t i end h, e) at g
+module _ (t : ℕ → Bool) (f : ℕ → ℕ) (start end : ℕ) where
+  pub keying_start : Keying t f [] start end (start + 1)
+  unfolding between
+  keying_start = refl
 
-  pub walk_end : end ≤ i → Filling whole (map f (keep t i (end - i))) out₀ out n → Listed whole out₀ out n
-  walk_end h g = fill_end (rw (keep_over t i end h) at g)
+  module _ (keys : List ℕ) (i : ℕ) (g : Keying t f keys start end i) where
+    pub keying_room : i < end → t i ≡ true → end ≤ 2048 → length keys < 2048
+    unfolding between
+    keying_room h e l =
+        let p : length (map f (between start end t)) ≤ end = rw length-map (omega (arith, keep_fits t (start + 1) (end - (start + 1)))) in
+        push_room keys (f i) (map f (keep t (i + 1) (end - (i + 1)))) (rw (keep_step t i end h, e) at g) 2048 (omega arith)
 
-walk_start : (t : ℕ → Bool) (f : ℕ → ℕ) (i end : ℕ) (whole out₀ : List ℕ) → whole ≡ map f (keep t i (end - i)) → end ≤ length out₀ → Filling whole (map f (keep t i (end - i))) out₀ out₀ 0
-walk_start t f i end whole out₀ e h =
-    subst (λ (w : List ℕ). Filling whole w out₀ out₀ 0) e
-    (fill_start whole out₀ (rw (e, length-map) (omega (arith, keep_fits t i (end - i)))))
+    pub keying_yes : i < end → t i ≡ true → Keying t f (keys ++ (f i ∷ [])) start end (i + 1)
+    keying_yes h e = push_on keys (f i) (map f (keep t (i + 1) (end - (i + 1)))) (rw (keep_step t i end h, e) at g)
 
--- the test and the key of a pause edge
-abbrev pub pause_here : List Float → Float → ℕ → Bool
-pause_here db threshold = changed (speech_at threshold db)
+    pub keying_no : i < end → t i ≡ false → Keying t f keys start end (i + 1)
+    keying_no h e = rw (keep_step t i end h, e) at g
 
-abbrev pub pause_key : List Float → Float → ℕ → ℕ
-pause_key db threshold i = key_of (pause_edge db threshold i)
+    pub keying_end : end ≤ i → keys ≡ map f (between start end t)
+    keying_end h = sym (append-nil keys) ∙ (rw (keep_over t i end h) at g)
 
-pub pauses_start : (db : List Float) (threshold : Float) (start end : ℕ) (out₀ : List ℕ) → end ≤ length out₀ →
-    Filling (map key_of (pause_edges db threshold start end)) (map (pause_key db threshold) (keep (pause_here db threshold) (start + 1) (end - (start + 1)))) out₀ out₀ 0
-unfolding pause_edges between
-pauses_start db threshold start end out₀ h =
-    walk_start (pause_here db threshold) (pause_key db threshold) (start + 1) end _ out₀ (map-map key_of (pause_edge db threshold) (keep (pause_here db threshold) (start + 1) (end - (start + 1)))) h
-
--- the test and the key of a voicing edge
-abbrev pub voicing_here : List Float → (ℕ → Bool) → ℕ → Bool
-voicing_here pitch skip i = changed (voiced pitch) i && not (skip i)
-
-abbrev pub voicing_key : List Float → ℕ → ℕ
-voicing_key voicing i = key_of (voicing_edge voicing i)
-
-pub voicings_start : (pitch voicing : List Float) (skip : ℕ → Bool) (start end : ℕ) (out₀ : List ℕ) → end ≤ length out₀ →
-    Filling (map key_of (voicing_edges pitch voicing skip start end)) (map (voicing_key voicing) (keep (voicing_here pitch skip) (start + 1) (end - (start + 1)))) out₀ out₀ 0
-unfolding voicing_edges between
-voicings_start pitch voicing skip start end out₀ h =
-    walk_start (voicing_here pitch skip) (voicing_key voicing) (start + 1) end _ out₀ (map-map key_of (voicing_edge voicing) (keep (voicing_here pitch skip) (start + 1) (end - (start + 1)))) h
+-- the keys of edges are all written
+module _ (t : ℕ → Bool) (edge : ℕ → Candidate) (start end : ℕ) (keys : List ℕ) (i : ℕ) (g : Keying t (λ i. key_of (edge i)) keys start end i) where
+  pub keying_keys : end ≤ i → {ks : List ℕ} → ks ≡ keys → ks ≡ map key_of (map edge (between start end t))
+  keying_keys h e = e ∙ keying_end t (λ i. key_of (edge i)) start end keys i g h ∙ sym (map-map key_of edge (between start end t))
 
 -- ---- the keys of those minima that pass
-module _ (s : List Float) (t : ℕ → Bool) (mins : List ℕ) where
+module _ (s : List Float) (t : ℕ → Bool) where
   abbrev pub keyed : List ℕ → List ℕ
   keyed l = map key_of (map (minimum s) (filter t l))
 
-  pub keyed_start : (out₀ : List ℕ) → length mins ≤ length out₀ → Filling (keyed mins) (keyed (drop 0 mins)) out₀ out₀ 0
-  keyed_start out₀ h = fill_start (keyed mins) out₀ (rw (length-map, length-map) (omega (arith, filter_le t mins)))
+  module _ (mins keys : List ℕ) (i : ℕ) (g : keys ++ keyed (drop i mins) ≡ keyed mins) where
+    pub keyed_room : i < length mins → t (get_or mins i 0) ≡ true → length mins ≤ 2048 → length keys < 2048
+    keyed_room h e l =
+        let p : length (keyed mins) ≤ length mins = rw (length-map, length-map) (filter_le t mins) in
+        push_room keys (key_of (minimum s (get_or mins i 0))) (keyed (drop (i + 1) mins)) (rw (filter_step t mins i 0 h, e) at g) 2048 (omega arith)
 
-  module _ {out₀ out : List ℕ} {n i : ℕ} where
-    pub keyed_yes : i < length mins → t (get_or mins i 0) ≡ true → Filling (keyed mins) (keyed (drop i mins)) out₀ out n → Filling (keyed mins) (key_of (minimum s (get_or mins i 0)) ∷ keyed (drop (i + 1) mins)) out₀ out n
-    keyed_yes h e f = rw (filter_step t mins i 0 h, e) at f
+    pub keyed_yes : i < length mins → t (get_or mins i 0) ≡ true → (keys ++ (key_of (minimum s (get_or mins i 0)) ∷ [])) ++ keyed (drop (i + 1) mins) ≡ keyed mins
+    keyed_yes h e = push_on keys (key_of (minimum s (get_or mins i 0))) (keyed (drop (i + 1) mins)) (rw (filter_step t mins i 0 h, e) at g)
 
-    pub keyed_no : i < length mins → t (get_or mins i 0) ≡ false → Filling (keyed mins) (keyed (drop i mins)) out₀ out n → Filling (keyed mins) (keyed (drop (i + 1) mins)) out₀ out n
-    keyed_no h e f = rw (filter_step t mins i 0 h, e) at f
+    pub keyed_no : i < length mins → t (get_or mins i 0) ≡ false → keys ++ keyed (drop (i + 1) mins) ≡ keyed mins
+    keyed_no h e = rw (filter_step t mins i 0 h, e) at g
 
-    pub keyed_end : length mins ≤ i → Filling (keyed mins) (keyed (drop i mins)) out₀ out n → Listed (keyed mins) out₀ out n
-    keyed_end h f = fill_end (rw (filter_over t mins i h) at f)
+    pub keyed_end : length mins ≤ i → keys ≡ keyed mins
+    keyed_end h = sym (append-nil keys) ∙ (rw (filter_over t mins i h) at g)
+
+-- the test of a pause edge, and of a voicing edge
+abbrev pub pause_here : List Float → Float → ℕ → Bool
+pause_here db threshold = changed (speech_at threshold db)
+
+abbrev pub voicing_here : List Float → (ℕ → Bool) → ℕ → Bool
+voicing_here pitch skip i = changed (voiced pitch) i && not (skip i)
 
 -- ---- candidates are sound, and lie where the region is
 fits_size : (x : Float) → T (fits binary32 x) → T (fits binary32 (magnitude x))
@@ -189,10 +177,19 @@ module _ (start end : ℕ) where
   voicings_sound : (pitch voicing : List Float) (skip : ℕ → Bool) → end ≤ 2048 → Each Sound (voicing_edges pitch voicing skip start end)
   voicings_sound pitch voicing skip g = each_voicing Sound start end pitch voicing skip (λ i h. record { narrow = narrow i (omega (arith, h.1)) g; held = or_fits _ (jump_fits _ _) })
 
-pub minima_below : (s : List Float) → Each (λ i. i < length s) (local_extrema s 0 (length s) Min)
+minima_below : (s : List Float) → Each (λ i. i < length s) (local_extrema s 0 (length s) Min)
 minima_below s =
     each_map (λ i. (0 ≤ i) × (i < min (length s) (length s))) (λ i. i < length s) (λ i h. omega (arith, h.1)) (local_extrema s 0 (length s) Min)
     (strict_each 0 (min (length s) (length s)) (local_extrema s 0 (length s) Min) (extrema_rise s 0 (length s) Min))
+
+module _ (s : List Float) {mins : List ℕ} (d : mins ≡ local_extrema s 0 (length s) Min) where
+  pub mins_below : (i : ℕ) → i < length mins → get_or mins i 0 < length s
+  mins_below i h = each_at (λ m. m < length s) mins 0 (subst (Each (λ m. m < length s)) (sym d) (minima_below s)) i h
+
+  -- the keys of those in long spans are all written
+  pub minima_keys : (skip : ℕ → Bool) (kept : List ℕ) {test : ℕ → Bool} {ks keys : List ℕ} → test ≡ in_long_span kept → keys ≡ keyed s (λ i. test i && not (skip i)) mins → ks ≡ keys → ks ≡ map key_of (minima s skip kept)
+  unfolding minima
+  minima_keys skip kept {test} e g d' = d' ∙ g ∙ ap (λ (t : ℕ → Bool). keyed s (λ i. t i && not (skip i)) mins) e ∙ ap (keyed s (λ i. in_long_span kept i && not (skip i))) d
 
 module _ (P : Candidate → Type 0) (s : List Float) (skip : ℕ → Bool) (kept : List ℕ) where
   pub each_minimum : ((i : ℕ) → i < length s → P (minimum s i)) → Each P (minima s skip kept)
@@ -209,21 +206,16 @@ minima_sound s skip kept g = each_minimum Sound s skip kept (λ i h. record { na
     small : (i : ℕ) → i < length s → length s ≤ 2048 → i < 4294967296
     small i h g = omega arith
 
--- ---- from keys that were written to frames in their turn
--- candidates whose keys can be sorted and whose frames can be tried
-pub record Keyed (cs : List Candidate) : Type 0 where
-  pub sound : Each Sound cs
-  pub within : Each (λ c. c.frame ≤ 2048) cs
+-- ---- from keys to frames in their turn
+module _ {cs : List Candidate} (k : Keyed cs) {keys : List ℕ} (e : keys ≡ map key_of cs) where
+  in_turn_lem : map frame_in (sorted keys) ≡ in_turn cs
+  in_turn_lem = ap (λ (ks : List ℕ). map frame_in (sorted ks)) e ∙ keys_in_turn cs k.sound (sorted_is (map key_of cs))
 
-module _ {cs : List Candidate} (k : Keyed cs) {old new : List ℕ} {m : ℕ} (l : Listed (map key_of cs) old new m) where
-  in_turn_lem : map frame_in (sorted (take m new)) ≡ in_turn cs
-  in_turn_lem = ap (λ (ks : List ℕ). map frame_in (sorted ks)) (listed_take l) ∙ keys_in_turn cs k.sound (sorted_is (map key_of cs))
-
-  pub turn_fits : Each (λ f. f ≤ 2048) (map frame_in (sorted (take m new)))
+  pub turn_fits : Each (λ f. f ≤ 2048) (map frame_in (sorted keys))
   turn_fits = subst (Each (λ f. f ≤ 2048)) (sym in_turn_lem) (turn_each (λ f. f ≤ 2048) cs k.within)
 
-  pub turn_added : {cap : ℕ} {a b : List ℕ} {c d : ℕ} → AddedInTurn cap (map frame_in (sorted (take m new))) a c b d → AddedInTurn cap (in_turn cs) a c b d
-  turn_added {cap} {a} {b} {c} {d} h = subst (λ (xs : List ℕ). AddedInTurn cap xs a c b d) in_turn_lem h
+  pub turn_added : {a b : Kept} → AddedInTurn (map frame_in (sorted keys)) a b → AddedInTurn (in_turn cs) a b
+  turn_added {a} {b} h = subst (λ (xs : List ℕ). AddedInTurn xs a b) in_turn_lem h
 
 pub pauses_keyed : (db : List Float) (threshold : Float) (start end : ℕ) → end ≤ 2048 → Keyed (pause_edges db threshold start end)
 pauses_keyed db threshold start end g = record {

@@ -7,7 +7,8 @@ use Rattle.lists.specs.Results.{keep, filter}
 use Rattle.lists.specs.Frames.{all_frames}
 use Rattle.lists.specs.Candidates.{Candidate}
 use Rattle.region.specs.Speech.{speech_at}
-use Rattle.runs.specs.Runs.{Span, voiced}
+use Rattle.runs.specs.Runs.{voiced}
+use Rattle.runs.specs.declared.voiced.Span.{Span}
 use Rattle.runs.specs.Syllables.{dropouts}
 
 -- the frames strictly between start and end that pass

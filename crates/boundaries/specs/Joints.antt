@@ -1,18 +1,17 @@
 -- The joints of neighbouring nuclei. Definitions only.
-use Rattle.std.specs.Prelude.{ℕ, ◌+◌, Bool, not, ◌&&◌, cond, List, [], ◌∷◌, ◌++◌, ltb, eqb, Float}
+use Rattle.std.specs.Prelude.{ℕ, ◌+◌, Bool, not, ◌&&◌, cond, List, [], ◌∷◌, ◌++◌, ltb, eqb, Float, Option, None, Some}
 use Rattle.lists.specs.Results.{filter}
 use Rattle.smooth.specs.Extrema.{argmin_middle, shallow}
-use Rattle.runs.specs.Runs.{Span}
+use Rattle.runs.specs.declared.voiced.Span.{Span}
 use Rattle.runs.specs.Near.{run_of}
 use Rattle.runs.specs.declared.near.Found.{Found}
-use Rattle.runs.specs.declared.near.Found.TheVariants.{At, Nothing}
 
 -- of nuclei a < b and the syllable runs that they belong to: both edges of the pitch break, which are the frame after the first run and the first frame of the
 -- second, where the runs are two and the level hardly dips between the nuclei; else the frame of the lowest level
-abbrev pub joint_by : List Float → Float → ℕ → ℕ → Found → Found → List ℕ
-joint_by level dip a b (At x f l) (At y g m) = cond (not (eqb x y) && shallow level a b dip) ((l + 1) ∷ g ∷ []) (argmin_middle level a b ∷ [])
-joint_by level dip a b (At x f l) Nothing = argmin_middle level a b ∷ []
-joint_by level dip a b Nothing y = argmin_middle level a b ∷ []
+abbrev pub joint_by : List Float → Float → ℕ → ℕ → Option Found → Option Found → List ℕ
+joint_by level dip a b (Some x) (Some y) = cond (not (eqb x.number y.number) && shallow level a b dip) ((x.run.last + 1) ∷ y.run.first ∷ []) (argmin_middle level a b ∷ [])
+joint_by level dip a b (Some x) None = argmin_middle level a b ∷ []
+joint_by level dip a b None y = argmin_middle level a b ∷ []
 
 -- the joint of nuclei a < b
 unfoldable pub joint : List Float → List Span → Float → ℕ → ℕ → List ℕ

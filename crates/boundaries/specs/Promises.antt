@@ -3,7 +3,7 @@ use Rattle.std.specs.Prelude.{ℕ, ◌+◌, ◌-◌, ◌*◌, ◌≤◌, ◌<◌
 use Rattle.lists.specs.Results.{cons_if}
 use Rattle.lists.specs.By.{Each, Some}
 use Rattle.region.specs.Speech.{speech_at, last_of}
-use Rattle.runs.specs.Runs.{Span}
+use Rattle.runs.specs.declared.voiced.Span.{Span}
 use Rattle.boundaries.specs.Edges.{between, changed, loud_beside}
 
 -- each entry is more than 2 frames after the one before it, x the first

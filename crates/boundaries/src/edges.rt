@@ -1,19 +1,17 @@
 // Pause edges, creaks and voicing edges.
-ghost use Rattle.std.specs.Prelude.{◌≡◌, not, ◌&&◌, [], ◌∷◌, map, ◌+◌, ◌-◌, ◌≤◌, ◌<◌, length};
-ghost use Rattle.lists.specs.Results.{Listed, filter};
+ghost use Rattle.std.specs.Prelude.{◌≡◌, not, ◌&&◌, map, ℕ, Bool, ◌+◌, ◌-◌, ◌≤◌, ◌<◌, length};
 ghost use Rattle.lists.specs.Frames.{all_frames};
-ghost use Rattle.lists.specs.By.{Each};
-ghost use Rattle.lists.specs.Candidates.{key_of, in_turn};
+ghost use Rattle.lists.specs.Candidates.{Candidate, key_of, in_turn};
 ghost use Rattle.smooth.specs.Extrema.{inside};
-ghost use Rattle.region.specs.Speech.{speech_at, marked};
-ghost use Rattle.runs.specs.Runs.{voiced, spans};
-ghost use Rattle.boundaries.specs.Taken.{AddedInTurn, Spread};
-ghost use Rattle.boundaries.specs.Edges.{changed, jump, loud_beside, pause_edge, pause_edges, filled, in_creak, voicing_edge, voicing_edges};
+ghost use Rattle.region.specs.Speech.{speech_at};
+ghost use Rattle.runs.specs.Runs.{voiced};
+ghost use Rattle.boundaries.specs.Taken.{marked, Keyed, AddedInTurn, Spread};
+ghost use Rattle.boundaries.specs.Edges.{between, changed, jump, loud_beside, pause_edge, voicing_edge};
 ghost use Rattle.boundaries.specs.Boundaries.{creaky};
 
-use super::taken::add_sorted;
+use super::taken::Kept;
+use arrayvec::ArrayVec;
 use floats::plain::{magnitude, or_zero};
-use lists::blank::blank_keys;
 use lists::candidates::key_of;
 use region::{Bounds, is_speech};
 use runs::syllables::dropouts;
@@ -25,201 +23,149 @@ fn jump_of(x: f32, y: f32) -> f32
     magnitude(x - y)
 }
 
-// Whether frame i is speech; past the track none is.
-fn speech_at(db: &[f32], threshold: f32, i: usize) -> bool
-    ensures { result ≡ speech_at threshold db.now i }
-{
-    i < db.len() && is_speech(threshold, db[i])
+// Edges between the frames of a track.
+pub trait Edges {
+    // how many frames the track has
+    ghost frames: { Self → ℕ };
+
+    // whether there is an edge between frame i and the one before it
+    ghost here: { Self → ℕ → Bool };
+
+    // the edge there
+    ghost edge: { Self → ℕ → Candidate };
+
+    // Whether there is an edge between frame i and the one before it.
+    fn is_here(&self, i: usize) -> bool
+        requires { (0 < i) × (i < frames self.now) × (frames self.now ≤ 2048) }
+        ensures { result ≡ here self.now i };
+
+    // The key of the edge there.
+    fn key(&self, i: usize) -> u64
+        requires { (0 < i) × (i < frames self.now) × (frames self.now ≤ 2048) }
+        ensures { result ≡ key_of (edge self.now i) };
 }
 
-// Whether one of frame i and the frame before it is speech and the other not.
-fn speech_changes(db: &[f32], threshold: f32, i: usize) -> bool
-    requires { 0 < i }
-    ensures { result ≡ changed (speech_at threshold db.now) i }
+// Tries the edges strictly inside the region, the heaviest first, the earlier of equal ones.
+pub fn add_edges<E: Edges>(edges: &E, b: Bounds, kept: &mut Kept)
+    requires region { (b.start ≤ b.end) × (b.end ≤ E.frames edges.now) × (E.frames edges.now ≤ 2048) }
+    requires keyed { Keyed (map (E.edge edges.now) (between b.start b.end (E.here edges.now))) }
+    ensures { AddedInTurn (in_turn (map (E.edge edges.now) (between b.start b.end (E.here edges.now)))) kept.old kept.new }
 {
-    speech_at(db, threshold, i - 1) != speech_at(db, threshold, i)
-}
-
-// Frame i if it is speech, else the frame before it.
-fn loud_beside(db: &[f32], threshold: f32, i: usize) -> usize
-    requires { 0 < i }
-    ensures { (result ≡ loud_beside db.now threshold i) × (result ≤ i) }
-{
-    if speech_at(db, threshold, i) {
-        i
-    } else {
-        i - 1
-    }
-}
-
-// The key of the pause edge at the change before frame i.
-fn pause_key(db: &[f32], threshold: f32, i: usize) -> u64
-    requires { (0 < i) × (i < length db.now) × (length db.now ≤ 2048) }
-    ensures { result ≡ key_of (pause_edge db.now threshold i) }
-{
-    let weight = jump_of(or_zero(db[i]), or_zero(db[i - 1]));
-    key_of(loud_beside(db, threshold, i) as u32, weight)
-}
-
-// Writes the keys of the pause edges inside the region, and returns how many they are.
-fn pause_keys(db: &[f32], threshold: f32, start: usize, end: usize, out: &mut [u64]) -> usize
-    requires { (start ≤ end) × (end ≤ length db.now) × (length db.now ≤ 2048) × (length db.now ≤ length out.old) }
-    ensures { Listed (map key_of (pause_edges db.now threshold start end)) out.old out.new
-        result }
-{
-    let mut n: usize = 0;
-    let mut i = start + 1;
-    while i < end {
-        if speech_changes(db, threshold, i) {
-            out[n] = pause_key(db, threshold, i);
-            n += 1;
+    let mut keys: ArrayVec<u64, 2048> = ArrayVec::new();
+    for i in b.start + 1..b.end {
+        if edges.is_here(i) {
+            keys.push(edges.key(i));
         }
-        i += 1;
     }
-    n
-}
-
-// Tries the edges of pauses inside the region, that of the greatest jump first, the earlier of equal ones.
-pub fn add_pauses(db: &[f32], b: Bounds, taken: &mut [u8; 2053], count: usize, cap: usize) -> usize
-    requires { (b.start ≤ b.end) × (b.end ≤ length db.now) × (length db.now ≤ 2048) }
-    ensures { AddedInTurn cap (in_turn (pause_edges db.now b.threshold b.start b.end))
-        taken.old count taken.new result }
-{
-    let mut keys = blank_keys();
-    let m = pause_keys(db, b.threshold, b.start, b.end, &mut keys);
-    let mut room = blank_keys();
-    add_sorted(&mut keys[..m], &mut room, taken, count, cap)
-}
-
-// Whether each frame from a on and before b is speech; of none, yes.
-fn all_speech(db: &[f32], threshold: f32, a: usize, b: usize) -> bool
-    ensures { result ≡ all_frames (speech_at threshold db.now) a (b - a) }
-{
-    let mut i = a;
-    while i < b {
-        if !speech_at(db, threshold, i) {
-            return false;
-        }
-        i += 1;
-    }
-    true
+    kept.add_sorted(&mut keys);
 }
 
 // Marks the frames from a on and before b.
-pub fn mark_frames(a: usize, b: usize, marks: &mut [u8; 2048])
-    requires { b ≤ 2048 }
+pub fn mark_frames(a: usize, b: usize, marks: &mut [bool; 2048])
+    requires { (a ≤ b) × (b ≤ 2048) }
     ensures { Spread (inside a b) marks.old marks.new }
 {
-    let mut i = a;
-    while i < b {
-        marks[i] = 1;
-        i += 1;
+    marks[a..b].fill(true);
+}
+
+// The dB of a take, and the threshold over which it is speech.
+#[derive(Clone, Copy)]
+pub struct Speech<'a> {
+    pub db: &'a [f32],
+    pub threshold: f32,
+}
+
+impl Speech<'_> {
+    // Whether frame i is speech; past the track none is.
+    fn at(self, i: usize) -> bool
+        ensures { result ≡ speech_at self.entry.threshold self.entry.db.now i }
+    {
+        i < self.db.len() && is_speech(self.threshold, self.db[i])
     }
-}
 
-// Marks the frames of a gap, and the first after it, where each frame of it is speech.
-fn mark_creak(db: &[f32], threshold: f32, before: u32, after: u32, marks: &mut [u8; 2048])
-    requires { after < 2048 }
-    ensures { Spread (in_creak (filter (filled (speech_at threshold db.now)) (spans (before ∷ []) (after ∷ []))))
-        marks.old marks.new }
-{
-    let a = before as usize + 1;
-    let b = after as usize;
-    let past = b + 1;
-    if all_speech(db, threshold, a, b) {
-        mark_frames(a, past, marks);
+    // Frame i if it is speech, else the frame before it.
+    fn loud_beside(self, i: usize) -> usize
+        requires { 0 < i }
+        ensures { (result ≡ loud_beside self.entry.db.now self.entry.threshold i) × (result ≤ i) }
+    {
+        if self.at(i) { i } else { i - 1 }
     }
-}
 
-// Marks the frames that are in creaks, given the frames before and after each dropout.
-fn mark_creaks(db: &[f32], threshold: f32, before: &[u32], after: &[u32], marks: &mut [u8; 2048])
-    requires { (length before.now ≡ length after.now) × Each (λ z. z < 2048) after.now }
-    ensures { Spread (in_creak
-        (filter (filled (speech_at threshold db.now)) (spans before.now after.now)))
-        marks.old marks.new }
-{
-    let mut i: usize = 0;
-    while i < before.len() {
-        mark_creak(db, threshold, before[i], after[i], marks);
-        i += 1;
-    }
-}
-
-// Marks the frames that voicing edges and minima skip: those in creaks.
-pub fn creak_marks(db: &[f32], threshold: f32, pitch: &[f32], marks: &mut [u8; 2048])
-    requires { length pitch.now ≤ 2048 }
-    ensures { Spread (creaky db.now pitch.now threshold) marks.old marks.new }
-{
-    let mut before = [0u32; 2048];
-    let mut after = [0u32; 2048];
-    let n = dropouts(pitch, &mut before, &mut after);
-    mark_creaks(db, threshold, &before[..n], &after[..n], marks);
-}
-
-// Whether just one of frame i and the frame before it has a pitch, and frame i is not marked.
-fn voicing_changes(pitch: &[f32], skip: &[u8; 2048], i: usize) -> bool
-    requires { (0 < i) × (i < length pitch.now) × (length pitch.now ≤ 2048) }
-    ensures { result ≡ changed (voiced pitch.now) i && not (marked skip.now i) }
-{
-    let before = pitch[i - 1] != 0.0;
-    let here = pitch[i] != 0.0;
-    before != here && skip[i] != 1
-}
-
-// The key of the voicing edge at frame i.
-fn voicing_key(voicing: &[f32], i: usize) -> u64
-    requires { (0 < i) × (i < length voicing.now) × (length voicing.now ≤ 2048) }
-    ensures { result ≡ key_of (voicing_edge voicing.now i) }
-{
-    key_of(i as u32, or_zero(jump_of(voicing[i], voicing[i - 1])))
-}
-
-// Writes the keys of the voicing edges inside the region at frames that are not marked, and returns how many they are.
-fn voicing_keys(
-    pitch: &[f32],
-    voicing: &[f32],
-    skip: &[u8; 2048],
-    start: usize,
-    end: usize,
-    out: &mut [u64],
-) -> usize
-    requires { (start ≤ end) × (end ≤ length pitch.now) × (length pitch.now ≤ 2048)
-        × (length voicing.now ≡ length pitch.now) × (length pitch.now ≤ length out.old) }
-    ensures { Listed (map key_of
-        (voicing_edges pitch.now voicing.now (marked skip.now) start end)) out.old
-        out.new result }
-{
-    let mut n: usize = 0;
-    let mut i = start + 1;
-    while i < end {
-        if voicing_changes(pitch, skip, i) {
-            out[n] = voicing_key(voicing, i);
-            n += 1;
+    // Whether each frame from a on and before b is speech; of none, yes.
+    fn fills(self, a: usize, b: usize) -> bool
+        ensures { result ≡ all_frames (speech_at self.entry.threshold self.entry.db.now) a (b - a) }
+    {
+        for i in a..b {
+            if !self.at(i) {
+                return false;
+            }
         }
-        i += 1;
+        true
     }
-    n
+
+    // Marks of the frames in creaks: dropouts whose frames are all speech, each with the first frame after it.
+    pub fn creaks(self, pitch: &[f32]) -> [bool; 2048]
+        requires { length pitch.now ≤ 2048 }
+        ensures { marked result ≡ creaky self.entry.db.now pitch.now self.entry.threshold }
+    {
+        let mut marks = [false; 2048];
+        let gaps = dropouts(pitch);
+        for gap in gaps.as_slice() {
+            let a = gap.first as usize + 1;
+            let b = gap.last as usize;
+            if self.fills(a, b) {
+                mark_frames(a, b + 1, &mut marks);
+            }
+        }
+        marks
+    }
 }
 
-// Tries the voicing edges inside the region at frames that are not marked, that of the greatest jump first, the earlier of
-// equal ones.
-pub fn add_voicings(
-    pitch: &[f32],
-    voicing: &[f32],
-    skip: &[u8; 2048],
-    b: Bounds,
-    taken: &mut [u8; 2053],
-    count: usize,
-    cap: usize,
-) -> usize
-    requires { (b.start ≤ b.end) × (b.end ≤ length pitch.now) × (length pitch.now ≤ 2048)
-        × (length voicing.now ≡ length pitch.now) }
-    ensures { AddedInTurn cap (in_turn
-        (voicing_edges pitch.now voicing.now (marked skip.now) b.start b.end))
-        taken.old count taken.new result }
-{
-    let mut keys = blank_keys();
-    let m = voicing_keys(pitch, voicing, skip, b.start, b.end, &mut keys);
-    let mut room = blank_keys();
-    add_sorted(&mut keys[..m], &mut room, taken, count, cap)
+// The edges of pauses.
+impl Edges for Speech<'_> {
+    ghost frames = { λ s. length s.db.now };
+
+    ghost here = { λ s. changed (speech_at s.threshold s.db.now) };
+
+    ghost edge = { λ s. pause_edge s.db.now s.threshold };
+
+    fn is_here(&self, i: usize) -> bool {
+        self.at(i - 1) != self.at(i)
+    }
+
+    fn key(&self, i: usize) -> u64 {
+        let weight = jump_of(or_zero(self.db[i]), or_zero(self.db[i - 1]));
+        key_of(self.loud_beside(i) as u32, weight)
+    }
+}
+
+// The pitch of a take, how voiced its frames are, and marks of those that are skipped.
+#[derive(Clone, Copy)]
+pub struct Voicing<'a> {
+    pub pitch: &'a [f32],
+    pub voiced: &'a [f32],
+    pub skip: &'a [bool; 2048],
+    ghost as_long: { length voiced.now ≡ length pitch.now },
+}
+
+// The voicing edges at frames that are not skipped.
+impl Edges for Voicing<'_> {
+    ghost frames = { λ v. length v.pitch.now };
+
+    ghost here = { λ v i. changed (voiced v.pitch.now) i && not (marked v.skip.now i) };
+
+    ghost edge = { λ v. voicing_edge v.voiced.now };
+
+    fn is_here(&self, i: usize) -> bool {
+        let before = self.pitch[i - 1] != 0.0;
+        let here = self.pitch[i] != 0.0;
+        before != here && !self.skip[i]
+    }
+
+    fn key(&self, i: usize) -> u64 {
+        key_of(
+            i as u32,
+            or_zero(jump_of(self.voiced[i], self.voiced[i - 1])),
+        )
+    }
 }

@@ -1,17 +1,19 @@
 // Joints of neighbouring nuclei.
-ghost use Rattle.std.specs.Prelude.{◌≡◌, [], ◌∷◌, ◌+◌, ◌≤◌, ◌<◌, length};
+ghost use Rattle.std.specs.Prelude.{◌≡◌, [], ◌∷◌, ◌≤◌, ◌<◌, length};
 ghost use Rattle.lists.specs.Results.{filter};
 ghost use Rattle.lists.specs.Sorted.{StrictlyRises};
 ghost use Rattle.smooth.specs.Extrema.{argmin_middle};
-ghost use Rattle.runs.specs.Runs.{spans, SpansLent, InTrack};
+ghost use Rattle.runs.specs.Runs.{InTrack};
 ghost use Rattle.runs.specs.Syllables.{syllable_runs};
 ghost use Rattle.boundaries.specs.Taken.{AddedInTurn, joint_frames};
 ghost use Rattle.boundaries.specs.Joints.{joint, inner, joints_inside};
 
-use super::taken::try_add;
+use super::taken::Kept;
+use super::tracks::Tracks;
 use region::Bounds;
-use runs::near::{Found, run_of};
+use runs::near::run_of;
 use runs::syllables::syllable_runs;
+use runs::voiced::Span;
 use smooth::extrema::{argmin_middle, shallow_valley};
 
 // A joint of two nuclei: the frame of the lowest level between them, or both edges of the pitch break.
@@ -30,123 +32,57 @@ fn lowest_joint(level: &[f32], a: u32, b: u32) -> Joint
 }
 
 // The joint of the nuclei a and b, given the syllable runs.
-fn joint_of(level: &[f32], first: &[u32], last: &[u32], dip: f32, a: u32, b: u32) -> Joint
+fn joint_of(level: &[f32], runs: &[Span], dip: f32, a: u32, b: u32) -> Joint
     requires a_le_b { (a ≤ b) × (b < length level.now) × (length level.now ≤ 2048) }
-    requires spans_lent { SpansLent first.now last.now × InTrack (length level.now) (spans first.now last.now) }
-    ensures { joint_frames result ≡ joint level.now (spans first.now last.now) dip a b }
+    requires in_track { InTrack (length level.now) runs.now × (length runs.now ≤ 2048) }
+    ensures { joint_frames result ≡ joint level.now runs.now dip a b }
 {
-    let Found::At(x, _, l) = run_of(first, last, a) else {
+    let Some(x) = run_of(runs, a) else {
         return lowest_joint(level, a, b);
     };
-    let Found::At(y, f, _) = run_of(first, last, b) else {
+    let Some(y) = run_of(runs, b) else {
         return lowest_joint(level, a, b);
     };
-    if x != y {
-        if shallow_valley(level, a as usize, b as usize, dip) {
-            return Joint::Break(l + 1, f);
-        }
+    if x.number != y.number && shallow_valley(level, a as usize, b as usize, dip) {
+        return Joint::Break(x.run.last + 1, y.run.first);
     }
     lowest_joint(level, a, b)
 }
 
 // Tries a frame if it lies strictly inside the region.
-fn add_inside(
-    at: u32,
-    start: usize,
-    end: usize,
-    taken: &mut [u8; 2053],
-    count: usize,
-    cap: usize,
-) -> usize
-    requires { end ≤ 2048 }
-    ensures { AddedInTurn cap (filter (inner start end) (at ∷ [])) taken.old count taken.new result }
+fn add_inside(at: u32, b: Bounds, kept: &mut Kept)
+    requires { b.end ≤ 2048 }
+    ensures { AddedInTurn (filter (inner b.start b.end) (at ∷ [])) kept.old kept.new }
 {
     let i = at as usize;
-    if start < i {
-        if i < end {
-            return try_add(at, taken, count, cap);
-        }
+    if b.start < i && i < b.end {
+        kept.try_add(at);
     }
-    count
 }
 
 // Tries the frames of a joint that lie strictly inside the region.
-fn add_joint(
-    j: Joint,
-    start: usize,
-    end: usize,
-    taken: &mut [u8; 2053],
-    count: usize,
-    cap: usize,
-) -> usize
-    requires { end ≤ 2048 }
-    ensures { AddedInTurn cap (filter (inner start end) (joint_frames j)) taken.old count
-        taken.new result }
+fn add_joint(joint: Joint, b: Bounds, kept: &mut Kept)
+    requires { b.end ≤ 2048 }
+    ensures { AddedInTurn (filter (inner b.start b.end) (joint_frames joint)) kept.old kept.new }
 {
-    match j {
-        Joint::Lowest(m) => add_inside(m, start, end, taken, count, cap),
+    match joint {
+        Joint::Lowest(m) => add_inside(m, b, kept),
         Joint::Break(l, f) => {
-            let n = add_inside(l, start, end, taken, count, cap);
-            add_inside(f, start, end, taken, n, cap)
+            add_inside(l, b, kept);
+            add_inside(f, b, kept);
         }
     }
 }
 
-// Tries the joints of neighbouring nuclei that lie strictly inside the region, in order, given the syllable runs.
-fn add_joints_over(
-    level: &[f32],
-    first: &[u32],
-    last: &[u32],
-    dip: f32,
-    nuclei: &[u32],
-    b: Bounds,
-    taken: &mut [u8; 2053],
-    count: usize,
-    cap: usize,
-) -> usize
-    requires end_bound { (b.end ≤ 2048) × (length level.now ≤ 2048) × StrictlyRises 0 (length level.now) nuclei.now }
-    requires spans_lent { SpansLent first.now last.now × InTrack (length level.now) (spans first.now last.now) }
-    ensures { AddedInTurn cap (joints_inside level.now (spans first.now last.now) dip
-        b.start b.end nuclei.now) taken.old count taken.new result }
-{
-    let mut n = count;
-    let mut i: usize = 0;
-    while i + 1 < nuclei.len() {
-        let j = joint_of(level, first, last, dip, nuclei[i], nuclei[i + 1]);
-        n = add_joint(j, b.start, b.end, taken, n, cap);
-        i += 1;
-    }
-    n
-}
-
 // Tries the joints of neighbouring nuclei that lie strictly inside the region, in order.
-pub fn add_joints(
-    level: &[f32],
-    pitch: &[f32],
-    dip: f32,
-    nuclei: &[u32],
-    b: Bounds,
-    taken: &mut [u8; 2053],
-    count: usize,
-    cap: usize,
-) -> usize
-    requires { (b.end ≤ 2048) × (length level.now ≤ 2048) × StrictlyRises 0 (length level.now) nuclei.now
-        × (length level.now ≡ length pitch.now) }
-    ensures { AddedInTurn cap (joints_inside level.now (syllable_runs pitch.now) dip b.start
-        b.end nuclei.now) taken.old count taken.new result }
+pub fn add_joints(t: Tracks, dip: f32, nuclei: &[u32], kept: &mut Kept)
+    requires { StrictlyRises 0 (length t.db.now) nuclei.now }
+    ensures { AddedInTurn (joints_inside t.entry.level.now (syllable_runs t.entry.pitch.now) dip
+        t.entry.bounds.start t.entry.bounds.end nuclei.now) kept.old kept.new }
 {
-    let mut first = [0u32; 2048];
-    let mut last = [0u32; 2048];
-    let n = syllable_runs(pitch, &mut first, &mut last);
-    add_joints_over(
-        level,
-        &first[..n],
-        &last[..n],
-        dip,
-        nuclei,
-        b,
-        taken,
-        count,
-        cap,
-    )
+    let runs = syllable_runs(t.pitch);
+    for i in 1..nuclei.len() {
+        let joint = joint_of(t.level, &runs, dip, nuclei[i - 1], nuclei[i]);
+        add_joint(joint, t.bounds, kept);
+    }
 }

@@ -14,7 +14,7 @@ use Rattle.lists.proofs.Fill.{overlay_take}
 use Rattle.lists.proofs.Keys.{Held}
 use Rattle.region.specs.Speech.{threshold_of, marks_of, region_of}
 use Rattle.region.specs.declared.Region.{Region}
-use Rattle.region.specs.declared.Region.TheVariants.{Nowhere, Span}
+use Rattle.std.specs.Prelude.{Option, None, Some}
 use Rattle.region.proofs.Spans.{region_size, region_within}
 use Rattle.repair.specs.Repair.{Pitches}
 use Rattle.recover.proofs.Scaled.{recovered_scaled}
@@ -54,19 +54,23 @@ no_marks t pitch number =
     }
 
 module _ (t : Take) (pitch : List Float) where
-  abbrev told : Region → Returned
+  abbrev told : Option Region → Returned
   told r = let m = reading_in t.db pitch t.voiced t.sonority t.settings r in read_off (answered m) m
 
-  in_region : (r : Region) → region_of t.db t.settings ≡ r → (told r).answer.found ≡ true → BoundariesKept t (told r)
-  in_region Nowhere e f = absurd (false≢true f)
-  in_region (Span start end) e f =
+  in_region : (r : Option Region) → region_of t.db t.settings ≡ r → (told r).answer.found ≡ true → BoundariesKept t (told r)
+  in_region None e f = absurd (false≢true f)
+  in_region (Some r) e f =
+      let start = r.start in
+      let end = r.end in
       let ns = frames_of (nuclei_of t.db pitch start end t.settings) in
       let wide : start + 2 < end = omega (arith, region_size (threshold_of t.db t.settings) t.db start end e) in
       record { promised = promised t.db pitch t.voiced start end ns t.settings wide; few = with_pauses t.db pitch t.voiced start end ns t.settings wide }
 
-  in_order : (r : Region) → region_of t.db t.settings ≡ r → Ordered t (told r)
-  in_order Nowhere e = no_marks t pitch 0
-  in_order (Span start end) e =
+  in_order : (r : Option Region) → region_of t.db t.settings ≡ r → Ordered t (told r)
+  in_order None e = no_marks t pitch 0
+  in_order (Some r) e =
+      let start = r.start in
+      let end = r.end in
       let found = nuclei_of t.db pitch start end t.settings in
       let ns = frames_of found in
       let bs = boundaries_of t.db pitch t.voiced start end ns t.settings in
@@ -114,9 +118,9 @@ module _ (t : Take) where
   unfolding answer_by
   number_by zero = go (reading_of t).region
     where
-      go : (r : Region) → (counted (reading_of t) r).refusal ≡ 0
-      go Nowhere = refl
-      go (Span start end) = refl
+      go : (r : Option Region) → (counted (reading_of t) r).refusal ≡ 0
+      go None = refl
+      go (Some r) = refl
   number_by (suc k) = refl
 
   -- the answer counts what is read

@@ -11,10 +11,10 @@ use Rattle.lists.specs.Results.{overlay, Listed}
 use Rattle.lists.specs.Sorted.{StrictlyRises}
 use Rattle.lists.proofs.Fill.{listed_take}
 use Rattle.lists.proofs.Members.{strict_from, strict_to}
-use Rattle.region.specs.Speech.{threshold_of, mark, marks_of, region_of}
+use Rattle.region.specs.Speech.{threshold_of, mark, marks_of, spanning, region_of}
 use Rattle.region.specs.declared.Settings.{Settings}
 use Rattle.region.specs.declared.Region.{Region}
-use Rattle.region.specs.declared.Region.TheVariants.{Nowhere, Span}
+use Rattle.std.specs.Prelude.{Option, None, Some}
 use Rattle.nsdf.specs.Period.{period_hz}
 use Rattle.nsdf.proofs.Range.{period_range}
 use Rattle.repair.specs.Repair.{Pitches}
@@ -74,7 +74,7 @@ module _ (db pitch voiced sonority : List Float) (p : Settings) (start end : ℕ
       (xstrengths : Listed (strengths_of (extras_of db pitch sonority start end (take n left.frames) p)) lent.xstrengths left.xstrengths x)
       (edges : Listed (edges_of db pitch sonority start end (take n left.frames) p) lent.edges left.edges e)
       (boundaries : Listed (boundaries_of db pitch voiced start end (take n left.frames) p) lent.bounds left.bounds b) where
-    pub told : MarkCall (reading_in db pitch voiced sonority p (Span start end)) lent left (record { refusal = 0; found = true; start = start; end = end; nuclei = n; extras = x; edges = e; boundaries = b })
+    pub told : MarkCall (reading_in db pitch voiced sonority p (Some (spanning start end))) lent left (record { refusal = 0; found = true; start = start; end = end; nuclei = n; extras = x; edges = e; boundaries = b })
     told =
         let q = listed_take nuclei in
         let ns = nuclei_of db pitch start end p in
@@ -88,9 +88,9 @@ module _ (db pitch voiced sonority : List Float) (p : Settings) (start end : ℕ
 
 -- ---- the whole chain
 -- a reading's pitches are those that it is over
-pub reading_pitch : (db pitch voiced sonority : List Float) (p : Settings) (r : Region) → (reading_in db pitch voiced sonority p r).pitch ≡ pitch
-reading_pitch db pitch voiced sonority p Nowhere = refl
-reading_pitch db pitch voiced sonority p (Span start end) = refl
+pub reading_pitch : (db pitch voiced sonority : List Float) (p : Settings) (r : Option Region) → (reading_in db pitch voiced sonority p r).pitch ≡ pitch
+reading_pitch db pitch voiced sonority p None = refl
+reading_pitch db pitch voiced sonority p (Some r) = refl
 
 pub length_pitches : (t : Take) → length (pitches_of t) ≡ length t.pitch
 unfolding pitches_of

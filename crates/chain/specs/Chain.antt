@@ -1,17 +1,19 @@
 -- The chain: every stage in turn, each on the tracks so far. Definitions only.
-use Rattle.std.specs.Prelude.{ℕ, zero, suc, ◌+◌, ◌≤◌, ◌≡◌, true, false, List, [], ℤ, length, Float}
+use Rattle.std.specs.Prelude.{ℕ, zero, suc, ◌+◌, ◌≤◌, ◌≡◌, true, false, List, [], ℤ, length, Option, None, Some, Result, Ok, Err, Float}
 use Rattle.lists.specs.Results.{overlay}
 use Rattle.region.specs.Speech.{marks_of, region_of}
 use Rattle.region.specs.declared.Settings.{Settings}
 use Rattle.region.specs.declared.Region.{Region}
-use Rattle.region.specs.declared.Region.TheVariants.{Nowhere, Span}
 use Rattle.repair.specs.Repair.{repaired}
 use Rattle.recover.specs.Recovered.{recovered}
 use Rattle.nuclei.specs.Nuclei.{Nucleus, nuclei_of, frames_of, strengths_of}
 use Rattle.extra.specs.Extra.{extras_of, edges_of}
 use Rattle.boundaries.specs.Boundaries.{boundaries_of}
 use Rattle.admit.specs.Refusals.{chain_refusal}
+use Rattle.admit.specs.declared.numbers.Refusal.{Refusal}
+use Rattle.admit.specs.Numbers.{number_at}
 use Rattle.chain.specs.declared.Marks.{Marks}
+use Rattle.chain.specs.declared.Marked.{Marked}
 
 -- what a call of the chain is given of a take
 pub record Take : Type 0 where
@@ -29,7 +31,7 @@ take_of db pitch voiced sonority vowel samples p = record { db = db; pitch = pit
 -- what it makes of it: the pitch track and the marks
 pub record Reading : Type 0 where
   pub pitch : List Float
-  pub region : Region
+  pub region : Option Region
   pub nuclei : List Nucleus
   pub extras : List Nucleus
   pub edges : List ℕ
@@ -45,18 +47,20 @@ pitches_of t = repaired (joined_track t)
 
 -- a pitch track and no marks
 abbrev pub unmarked : List Float → Reading
-unmarked pitch = record { pitch = pitch; region = Nowhere; nuclei = []; extras = []; edges = []; boundaries = [] }
+unmarked pitch = record { pitch = pitch; region = None; nuclei = []; extras = []; edges = []; boundaries = [] }
 
 module _ (db pitch voiced sonority : List Float) (p : Settings) where
   -- the marks of a region: nuclei, then extras and boundaries around them, of which neither reads the other
-  abbrev pub reading_in : Region → Reading
-  reading_in Nowhere = unmarked pitch
-  reading_in (Span start end) =
+  abbrev pub reading_in : Option Region → Reading
+  reading_in None = unmarked pitch
+  reading_in (Some r) =
+      let start = r.start in
+      let end = r.end in
       let nuclei = nuclei_of db pitch start end p in
       let frames = frames_of nuclei in
       record {
         pitch = pitch;
-        region = Span start end;
+        region = Some r;
         nuclei = nuclei;
         extras = extras_of db pitch sonority start end frames p;
         edges = edges_of db pitch sonority start end frames p;
@@ -77,14 +81,24 @@ abbrev pub nothing : ℕ → Marks
 nothing refusal = record { refusal = refusal; found = false; start = 0; end = 0; nuclei = 0; extras = 0; edges = 0; boundaries = 0 }
 
 -- how many of each there are in a region
-abbrev pub counted : Reading → Region → Marks
-counted m Nowhere = nothing 0
-counted m (Span start end) =
-    record { refusal = 0; found = true; start = start; end = end; nuclei = length m.nuclei; extras = length m.extras; edges = length m.edges; boundaries = length m.boundaries }
+abbrev pub counted : Reading → Option Region → Marks
+counted m None = nothing 0
+counted m (Some r) =
+    record { refusal = 0; found = true; start = r.start; end = r.end; nuclei = length m.nuclei; extras = length m.extras; edges = length m.edges; boundaries = length m.boundaries }
 
 -- the answer that a reading is given by
 abbrev pub answered : Reading → Marks
 answered m = counted m m.region
+
+-- the numbers that stand for what a call answers, as C callers get them: of what is found, with its region
+abbrev pub marks_in : Option Region → Marked → Marks
+marks_in None m = record { refusal = 0; found = false; start = 0; end = 0; nuclei = m.nuclei; extras = m.extras; edges = m.edges; boundaries = m.boundaries }
+marks_in (Some r) m = record { refusal = 0; found = true; start = r.start; end = r.end; nuclei = m.nuclei; extras = m.extras; edges = m.edges; boundaries = m.boundaries }
+
+-- of a refusal, or of what is found
+abbrev pub marks_for : Result Marked Refusal → Marks
+marks_for (Ok m) = marks_in m.region m
+marks_for (Err r) = nothing (number_at r)
 
 -- by the refusal number: the reading of the take, or its pitches as they were and no marks
 unfoldable pub reading_by : Take → ℕ → Reading

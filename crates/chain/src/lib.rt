@@ -1,22 +1,40 @@
 // The whole chain: speech marks, recovery, repair, region, nuclei, extra candidates, boundaries, each on the tracks so far.
 #![tactic(auto)]
 
-ghost use Rattle.std.specs.Prelude.{◌≡◌, ◌≤◌, length};
+ghost use Rattle.std.specs.Prelude.{◌≡◌, ◌≤◌, length, Some, Ok};
 ghost use Rattle.region.specs.Speech.{marks_of};
-ghost use Rattle.region.specs.declared.Region.TheVariants.{Span};
 ghost use Rattle.repair.specs.Repair.{Pitches, repaired};
 ghost use Rattle.recover.specs.Recovered.{recovered};
-ghost use Rattle.chain.specs.Chain.{take_of, lists_of, Room, reading_in, reading_with, nothing, MarkCall, ChainCall};
+ghost use Rattle.chain.specs.Chain.{take_of, lists_of, Room, reading_in, reading_with, marks_in, marks_for, MarkCall, ChainCall};
 
 use admit::chain_refusal;
+use admit::numbers::Refusal;
 use boundaries::boundaries_with;
 use extra::extra_candidates;
 use recover::recover_pitch;
 use region::{Region, Settings, speech_frames, speech_region};
 use repair::repair_octaves;
 
-// What the chain answers: a refusal's number, 0 for none; whether there is a region, and its frames; how many entries
-// each list got.
+// What an admitted call finds: the region, where there is one, and how many entries each list got.
+#[derive(Clone, Copy)]
+pub struct Marked {
+    pub region: Option<Region>,
+    pub nuclei: usize,
+    pub extras: usize,
+    pub edges: usize,
+    pub boundaries: usize,
+}
+
+// No region, and so no marks.
+const UNMARKED: Marked = Marked {
+    region: None,
+    nuclei: 0,
+    extras: 0,
+    edges: 0,
+    boundaries: 0,
+};
+
+// For C: a refusal's number, 0 for none; whether there is a region, and its frames; how many entries each list got.
 #[repr(C)]
 #[derive(Clone, Copy)]
 pub struct Marks {
@@ -28,6 +46,54 @@ pub struct Marks {
     pub extras: usize,
     pub edges: usize,
     pub boundaries: usize,
+}
+
+// What is found, with the number of an admitted call.
+fn told(m: Marked) -> Marks
+    ensures { result ≡ marks_in m.region m }
+{
+    match m.region {
+        None => Marks {
+            refusal: 0,
+            found: false,
+            start: 0,
+            end: 0,
+            nuclei: m.nuclei,
+            extras: m.extras,
+            edges: m.edges,
+            boundaries: m.boundaries,
+        },
+        Some(r) => Marks {
+            refusal: 0,
+            found: true,
+            start: r.start,
+            end: r.end,
+            nuclei: m.nuclei,
+            extras: m.extras,
+            edges: m.edges,
+            boundaries: m.boundaries,
+        },
+    }
+}
+
+impl From<Result<Marked, Refusal>> for Marks {
+    ghost from_gives = { λ r m. m ≡ marks_for r };
+
+    fn from(r: Result<Marked, Refusal>) -> Marks {
+        match r {
+            Ok(m) => told(m),
+            Err(refusal) => Marks {
+                refusal: u32::from(refusal),
+                found: false,
+                start: 0,
+                end: 0,
+                nuclei: 0,
+                extras: 0,
+                edges: 0,
+                boundaries: 0,
+            },
+        }
+    }
 }
 
 // Recovers the pitches that the tracker left out, and then repairs the joined track, so that recovered stretches are beside each
@@ -43,14 +109,20 @@ fn mark_pitches(db: &[f32], pitch: &mut [f32], vowel: &[u8], samples: &[i16], p:
     repair_octaves(pitch);
 }
 
+// The tracks of a take whose pitches are recovered and repaired. The result lists stand loose: the borrow checker does not
+// cover a call that is lent two lists of a struct.
+#[derive(Clone, Copy)]
+struct Tracks<'a> {
+    db: &'a [f32],
+    pitch: &'a [f32],
+    voiced: &'a [f32],
+    sonority: &'a [f32],
+}
+
 // The marks of a region: nuclei, then extra candidates and boundaries around them.
 fn mark_region(
-    db: &[f32],
-    pitch: &[f32],
-    voiced: &[f32],
-    sonority: &[f32],
-    start: u32,
-    end: u32,
+    t: Tracks<'_>,
+    region: Region,
     p: Settings,
     frames: &mut [u32],
     strengths: &mut [f32],
@@ -58,25 +130,25 @@ fn mark_region(
     xstrengths: &mut [f32],
     edges: &mut [u32],
     bounds: &mut [u32],
-) -> Marks
-    requires db_len_bound { (length db.now ≤ 2048) × (length pitch.now ≡ length db.now) × (length voiced.now ≡ length db.now)
-        × (start ≤ end) × (end ≤ length db.now) }
-    requires room { Room (length db.now)
+) -> Marked
+    requires db_len_bound { (length t.db.now ≤ 2048) × (length t.pitch.now ≡ length t.db.now) × (length t.voiced.now ≡ length t.db.now)
+        × (region.start ≤ region.end) × (region.end ≤ length t.db.now) }
+    requires room { Room (length t.db.now)
         (lists_of frames.old strengths.old xframes.old xstrengths.old edges.old bounds.old) }
     ensures { MarkCall
-        (reading_in db.now pitch.now voiced.now sonority.now p (Span start end))
+        (reading_in t.entry.db.now t.entry.pitch.now t.entry.voiced.now t.entry.sonority.now p (Some region))
         (lists_of frames.old strengths.old xframes.old xstrengths.old
         edges.old bounds.old)
         (lists_of frames.new strengths.new xframes.new xstrengths.new
-        edges.new bounds.new) result }
+        edges.new bounds.new) (marks_for (Ok result)) }
 {
-    let a = start as usize;
-    let b = end as usize;
-    let n = nuclei::nuclei(db, pitch, a, b, p, frames, strengths);
+    let a = region.start as usize;
+    let b = region.end as usize;
+    let n = nuclei::nuclei(t.db, t.pitch, a, b, p, frames, strengths);
     let x = extra_candidates(
-        db,
-        pitch,
-        sonority,
+        t.db,
+        t.pitch,
+        t.sonority,
         a,
         b,
         &frames[..n],
@@ -85,12 +157,9 @@ fn mark_region(
         xstrengths,
         edges,
     );
-    let bs = boundaries_with(db, pitch, voiced, a, b, &frames[..n], p, bounds);
-    Marks {
-        refusal: 0,
-        found: true,
-        start,
-        end,
+    let bs = boundaries_with(t.db, t.pitch, t.voiced, a, b, &frames[..n], p, bounds);
+    Marked {
+        region: Some(region),
         nuclei: n,
         extras: x.extras,
         edges: x.edges,
@@ -98,28 +167,9 @@ fn mark_region(
     }
 }
 
-// No marks, by a refusal or for want of a region.
-fn nothing(refusal: u32) -> Marks
-    ensures { result ≡ nothing refusal }
-{
-    Marks {
-        refusal,
-        found: false,
-        start: 0,
-        end: 0,
-        nuclei: 0,
-        extras: 0,
-        edges: 0,
-        boundaries: 0,
-    }
-}
-
 // The marks of a take whose pitches are recovered and repaired.
 fn mark_take(
-    db: &[f32],
-    pitch: &[f32],
-    voiced: &[f32],
-    sonority: &[f32],
+    t: Tracks<'_>,
     p: Settings,
     frames: &mut [u32],
     strengths: &mut [f32],
@@ -127,23 +177,22 @@ fn mark_take(
     xstrengths: &mut [f32],
     edges: &mut [u32],
     bounds: &mut [u32],
-) -> Marks
-    requires db_len_bound { (length db.now ≤ 2048) × (length pitch.now ≡ length db.now) × (length voiced.now ≡ length db.now) }
-    requires room { Room (length db.now)
+) -> Marked
+    requires db_len_bound { (length t.db.now ≤ 2048) × (length t.pitch.now ≡ length t.db.now) × (length t.voiced.now ≡ length t.db.now) }
+    requires room { Room (length t.db.now)
         (lists_of frames.old strengths.old xframes.old xstrengths.old edges.old bounds.old) }
-    ensures { MarkCall (reading_with db.now pitch.now voiced.now sonority.now p)
+    ensures { MarkCall (reading_with t.entry.db.now t.entry.pitch.now t.entry.voiced.now t.entry.sonority.now p)
         (lists_of frames.old strengths.old xframes.old xstrengths.old
         edges.old bounds.old)
         (lists_of frames.new strengths.new xframes.new xstrengths.new
-        edges.new bounds.new) result }
+        edges.new bounds.new) (marks_for (Ok result)) }
 {
-    match speech_region(db, p) {
-        Region::Nowhere => nothing(0),
-        Region::Span(start, end) => mark_region(
-            db, pitch, voiced, sonority, start, end, p, frames, strengths, xframes, xstrengths,
-            edges, bounds,
-        ),
-    }
+    let Some(region) = speech_region(t.db, p) else {
+        return UNMARKED;
+    };
+    mark_region(
+        t, region, p, frames, strengths, xframes, xstrengths, edges, bounds,
+    )
 }
 
 // The whole chain. A call is refused by the lowest number that applies, and then changes nothing; else pitches are
@@ -162,7 +211,7 @@ pub fn chain(
     xstrengths: &mut [f32],
     edges: &mut [u32],
     bounds: &mut [u32],
-) -> Marks
+) -> Result<Marked, Refusal>
     ensures { ChainCall
         (take_of db.now pitch.old voiced.now sonority.now vowel.now
         samples.now p)
@@ -170,9 +219,9 @@ pub fn chain(
         edges.old bounds.old)
         (lists_of frames.new strengths.new xframes.new xstrengths.new
         edges.new bounds.new)
-        pitch.new result }
+        pitch.new (marks_for result) }
 {
-    let number = chain_refusal(
+    chain_refusal(
         db,
         pitch,
         voiced,
@@ -186,12 +235,13 @@ pub fn chain(
         xstrengths.len(),
         edges.len(),
         bounds.len(),
-    );
-    if number != 0 {
-        return nothing(number);
-    }
+    )?;
     mark_pitches(db, pitch, vowel, samples, p);
-    mark_take(
-        db, pitch, voiced, sonority, p, frames, strengths, xframes, xstrengths, edges, bounds,
-    )
+    let t = Tracks {
+        db,
+        pitch,
+        voiced,
+        sonority,
+    };
+    Ok(mark_take(t, p, frames, strengths, xframes, xstrengths, edges, bounds))
 }

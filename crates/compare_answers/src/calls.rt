@@ -1,174 +1,160 @@
 // Kinds that are entries of single stages. An input has its numbers first, then its tracks; an answer has its refusal number
 // first, then counts, then what was lent, as long as it was lent.
-use super::fields::{after, part_at, put, put_bytes, rest, settings_in, size, total};
+use super::fields::{settings_in, size, total};
+use super::out::Out;
 use super::tables::{
-    blank_bytes, blank_floats, blank_words, fields_from, first_samples, first_words, floats_in,
-    front, lent, lent_bytes, lent_words, part, put_floats, put_list, put_nuclei, samples_in, track,
-    words_in,
+    ROOM, UNTOUCHED, first, first_mut, floats_in, lent, part, rest, samples_in, track, words_in,
 };
-use entries::stages::Answer;
-use region::Settings;
+use admit::numbers::{Refusal, number};
+use entries::stages::{Answer, Counted, Spanned};
+use floats::bits::from_bits;
 
-// A refusal and a track.
-fn put_track(out: &mut [u8], refusal: u32, xs: &[f32]) -> usize {
-    let at = put(out, 0, 1, refusal as u64);
-    put_floats(out, at, 4, xs)
+// The bytes that follow some fields.
+pub fn bytes_after(input: &[u8], base: usize, fields: usize) -> &[u8] {
+    let n = base.wrapping_add(fields);
+    if n <= input.len() / 4 {
+        &input[4 * n..]
+    } else {
+        input
+    }
 }
 
-// A refusal and a count; returns the place after.
-fn put_count(out: &mut [u8], refusal: u32, count: usize) -> usize {
-    let at = put(out, 0, 1, refusal as u64);
-    put(out, at, 4, count as u64)
+// A refusal.
+fn put_refusal(refusal: u32, out: &mut Out<'_>) {
+    out.number(1, u64::from(refusal));
 }
 
-// Kind 32: octave repair.
-fn repair(input: &[u8], out: &mut [u8]) -> usize {
-    let n = input.len() / 4;
-    let mut pitch = floats_in(input);
-    let refusal = entries::stages::repair(front(&mut pitch, n));
-    put_track(out, refusal, part(&pitch, 0, n))
+// A refusal and a count.
+fn put_count(r: Result<usize, Refusal>, out: &mut Out<'_>) {
+    let answer = Answer::from(r);
+    put_refusal(answer.refusal, out);
+    out.number(4, answer.count as u64);
 }
 
-fn recovery_of(
-    pitch: &mut [f32],
-    samples: &[i16],
-    speech: &[u8],
-    vowel: &[u8],
-    out: &mut [u8],
-) -> usize {
-    let refusal = entries::stages::recover(pitch, samples, speech, vowel);
-    put_track(out, refusal, pitch)
+pub fn repair(input: &[u8], out: &mut Out<'_>) {
+    let mut table = floats_in(input);
+    let pitch = first_mut(&mut table, input.len() / 4);
+    put_refusal(number(entries::stages::repair(pitch)), out);
+    out.fields(pitch);
 }
 
-// Kind 35: recovered pitch. `marks` are the bytes from the speech marks on.
-fn recovery(input: &[u8], out: &mut [u8]) -> usize {
-    let mut pitch = floats_in(rest(input, 20));
+pub fn recovery(input: &[u8], out: &mut Out<'_>) {
+    let mut table = floats_in(rest(input, 20));
+    let pitch = lent(&mut table, input, 0);
     let marks = bytes_after(input, 5, size(input, 0));
     let speech = size(input, 1);
     let vowel = size(input, 2);
-    let samples = samples_in(rest(marks, after(speech, vowel)), size(input, 3));
-    recovery_of(
-        lent(&mut pitch, input, 0),
-        first_samples(&samples, size(input, 3)),
-        part_at(marks, 0, speech),
-        part_at(marks, speech, vowel),
-        out,
-    )
-}
-
-// The bytes that follow some fields.
-pub fn bytes_after<'a>(input: &'a [u8], base: usize, fields: usize) -> &'a [u8] {
-    let n = after(base, fields);
-    if n <= input.len() / 4 {
-        return &input[4 * n..];
-    }
-    input
-}
-
-// Kind 36: the speech mark of each frame.
-fn speech(input: &[u8], floats: &[f32], out: &mut [u8]) -> usize {
-    let room = size(input, 3);
-    let mut marks = blank_bytes();
-    let found = entries::stages::speech_marks(
-        fields_from(floats, 4),
-        settings_in(input),
-        lent_bytes(&mut marks, input, 3),
+    let n = size(input, 3);
+    let samples = samples_in(rest(marks, speech.wrapping_add(vowel)), n);
+    let answer = entries::stages::recover(
+        pitch,
+        first(&samples, n),
+        part(marks, 0, speech),
+        part(marks, speech, vowel),
     );
-    let at = put_count(out, found.refusal, found.count);
-    put_bytes(out, at, part_at(&marks, 0, room))
+    put_refusal(number(answer), out);
+    out.fields(pitch);
 }
 
-// Kind 40: the nuclei of a region.
-fn nuclei(input: &[u8], floats: &[f32], out: &mut [u8]) -> usize {
-    let mut frames = blank_words();
-    let mut strengths = blank_floats();
+// The speech mark of each frame.
+pub fn speech(input: &[u8], floats: &[f32], out: &mut Out<'_>) {
+    let mut table = [0xeeu8; ROOM];
+    let marks = lent(&mut table, input, 3);
+    let found = entries::stages::speech_marks(rest(floats, 4), settings_in(input), marks);
+    put_count(found, out);
+    out.bytes(marks);
+}
+
+// The refusal, whether there is a region, and its ends.
+pub fn region(input: &[u8], floats: &[f32], out: &mut Out<'_>) {
+    let found = Spanned::from(entries::stages::region(rest(floats, 3), settings_in(input)));
+    put_refusal(found.refusal, out);
+    out.number(1, found.found as u64);
+    out.fields(&[found.start, found.end]);
+}
+
+// The nuclei of a region.
+pub fn nuclei(input: &[u8], floats: &[f32], out: &mut Out<'_>) {
+    let mut frames = [UNTOUCHED; ROOM];
+    let mut strengths = [from_bits(UNTOUCHED); ROOM];
+    let frames = lent(&mut frames, input, 5);
+    let strengths = lent(&mut strengths, input, 5);
     let found = entries::stages::nuclei(
         track(floats, input, 6, 8, 6),
         track(floats, input, 6, 8, 7),
         size(input, 3),
         size(input, 4),
         settings_in(input),
-        lent_words(&mut frames, input, 5),
-        lent(&mut strengths, input, 5),
+        frames,
+        strengths,
     );
-    let at = put_count(out, found.refusal, found.count);
-    put_nuclei(out, at, &frames, &strengths, size(input, 5))
+    put_count(found, out);
+    out.nuclei(frames, strengths);
 }
 
-// Kind 41: the extra candidates of a region and their edges.
-fn extras(input: &[u8], floats: &[f32], out: &mut [u8]) -> usize {
-    let nuclei = words_in(input, after(11, total(input, 7, 10)), 1);
-    let mut frames = blank_words();
-    let mut strengths = blank_floats();
-    let mut edges = blank_words();
-    let found = entries::stages::extras(
+// The extra candidates of a region and their edges.
+pub fn extras(input: &[u8], floats: &[f32], out: &mut Out<'_>) {
+    let nuclei = words_in(input, 11usize.wrapping_add(total(input, 7, 10)), 1);
+    let mut frames = [UNTOUCHED; ROOM];
+    let mut strengths = [from_bits(UNTOUCHED); ROOM];
+    let mut edges = [UNTOUCHED; ROOM];
+    let frames = lent(&mut frames, input, 5);
+    let strengths = lent(&mut strengths, input, 5);
+    let edges = lent(&mut edges, input, 6);
+    let found = Counted::from(entries::stages::extras(
         track(floats, input, 7, 11, 7),
         track(floats, input, 7, 11, 8),
         track(floats, input, 7, 11, 9),
         size(input, 3),
         size(input, 4),
-        first_words(&nuclei, size(input, 10)),
+        first(&nuclei, size(input, 10)),
         settings_in(input),
-        lent_words(&mut frames, input, 5),
-        lent(&mut strengths, input, 5),
-        lent_words(&mut edges, input, 6),
+        frames,
+        strengths,
+        edges,
+    ));
+    put_refusal(found.refusal, out);
+    out.number(4, found.extras as u64);
+    out.number(4, found.edges as u64);
+    out.nuclei(frames, strengths);
+    out.fields(edges);
+}
+
+// The boundaries of a region by what is given to an entry of boundaries: the tracks, the region, the nuclei and a list. `call`
+// and `floats` are from the region on.
+fn boundaries_by<F>(entry: F, call: &[u8], floats: &[f32], out: &mut Out<'_>)
+where
+    F: FnOnce(&[f32], &[f32], &[f32], usize, usize, &[u32], &mut [u32]) -> Result<usize, Refusal>,
+    requires { F.IsAlwaysCallable entry }
+{
+    let nuclei = words_in(call, 7usize.wrapping_add(total(call, 3, 6)), 1);
+    let mut list = [UNTOUCHED; ROOM];
+    let list = lent(&mut list, call, 2);
+    let found = entry(
+        track(floats, call, 3, 7, 3),
+        track(floats, call, 3, 7, 4),
+        track(floats, call, 3, 7, 5),
+        size(call, 0),
+        size(call, 1),
+        first(&nuclei, size(call, 6)),
+        list,
     );
-    let at = put_count(out, found.refusal, found.extras);
-    let lists = put(out, at, 4, found.edges as u64);
-    let last = put_nuclei(out, lists, &frames, &strengths, size(input, 5));
-    put_list(out, last, &edges, size(input, 6))
+    put_count(found, out);
+    out.fields(list);
 }
 
-// Kind 42 has settings, 43 has none.
-fn boundaries_of(
-    kind: u8,
-    p: Settings,
-    call: &[u8],
-    floats: &[f32],
-    nuclei: &[u32],
-    list: &mut [u32],
-) -> Answer {
-    let db = track(floats, call, 3, 7, 3);
-    let pitch = track(floats, call, 3, 7, 4);
-    let voiced = track(floats, call, 3, 7, 5);
-    let start = size(call, 0);
-    let end = size(call, 1);
-    if kind == 42 {
-        return entries::stages::boundaries_with(db, pitch, voiced, start, end, nuclei, p, list);
-    }
-    entries::stages::boundaries(db, pitch, voiced, start, end, nuclei, list)
-}
-
-// Kinds 42 and 43: the boundaries of a region. `call` and `floats` are from the region on.
-fn boundaries(kind: u8, p: Settings, call: &[u8], floats: &[f32], out: &mut [u8]) -> usize {
-    let nuclei = words_in(call, after(7, total(call, 3, 6)), 1);
-    let mut list = blank_words();
-    let found = boundaries_of(
-        kind,
-        p,
-        call,
-        floats,
-        first_words(&nuclei, size(call, 6)),
-        lent_words(&mut list, call, 2),
+pub fn boundaries_with(input: &[u8], floats: &[f32], out: &mut Out<'_>) {
+    let p = settings_in(input);
+    boundaries_by(
+        |db, pitch, voiced, start, end, nuclei, list| {
+            entries::stages::boundaries_with(db, pitch, voiced, start, end, nuclei, p, list)
+        },
+        rest(input, 12),
+        rest(floats, 3),
+        out,
     );
-    let at = put_count(out, found.refusal, found.count);
-    put_list(out, at, &list, size(call, 2))
 }
 
-pub fn answer(kind: u8, input: &[u8], floats: &[f32], out: &mut [u8]) -> usize {
-    match kind {
-        32 => repair(input, out),
-        35 => recovery(input, out),
-        36 => speech(input, floats, out),
-        40 => nuclei(input, floats, out),
-        41 => extras(input, floats, out),
-        42 => boundaries(
-            kind,
-            settings_in(input),
-            rest(input, 12),
-            fields_from(floats, 3),
-            out,
-        ),
-        _ => boundaries(kind, settings_in(input), input, floats, out),
-    }
+pub fn boundaries(input: &[u8], floats: &[f32], out: &mut Out<'_>) {
+    boundaries_by(entries::stages::boundaries, input, floats, out);
 }

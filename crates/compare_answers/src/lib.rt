@@ -5,38 +5,62 @@
 
 mod calls;
 pub mod fields;
+mod kind;
+mod out;
 mod short;
 mod tables;
 mod tracks;
 mod values;
 mod whole;
 
-// A new kind is a function and a line in `whole::answer`. One whose answer has a form that stands here already is a line in
-// the match of that form instead, and its number here.
-fn form(kind: u8) -> u8 {
+use kind::Kind;
+use out::Out;
+use runs::syllables::{dropouts, syllable_runs};
+use runs::voiced::long_runs;
+use smooth::extrema::Extremum;
+
+// A new kind is a case of `Kind`, its number there and a line here.
+fn write_answer(kind: Kind, input: &[u8], out: &mut Out<'_>) {
+    let table = tables::floats_in(input);
+    let floats = tables::first(&table, input.len() / 4);
     match kind {
-        1..=8 | 33 => 1,
-        19..=23 | 25 | 30 | 34 | 37 => 2,
-        17 | 18 | 26..=29 => 3,
-        16 | 24 => 4,
-        32 | 35 | 36 | 40..=43 => 5,
-        _ => 0,
+        Kind::Each(entry) => values::entries(entry, input, out),
+        Kind::Level => tracks::level(floats, out),
+        Kind::Maxima => tracks::extrema(Extremum::Max, input, floats, out),
+        Kind::Minima => tracks::extrema(Extremum::Min, input, floats, out),
+        Kind::ArgminMiddle => short::middle(Extremum::Min, input, floats, out),
+        Kind::ArgmaxMiddle => short::middle(Extremum::Max, input, floats, out),
+        Kind::ShallowValley => short::shallow(input, floats, out),
+        Kind::Floor => short::floor(floats, out),
+        Kind::Threshold => short::threshold(input, floats, out),
+        Kind::Speech => tracks::speech(input, floats, out),
+        Kind::Region => short::region(input, floats, out),
+        Kind::VoicedRuns => tracks::voiced_runs(floats, out),
+        Kind::LongRuns => tracks::spans(long_runs, floats, out),
+        Kind::SyllableRuns => tracks::spans(syllable_runs, floats, out),
+        Kind::Dropouts => tracks::spans(dropouts, floats, out),
+        Kind::RunOf => short::run_of(input, out),
+        Kind::Repair => calls::repair(input, out),
+        Kind::Nsdf => values::periodicity(input, out),
+        Kind::Estimate => short::estimate(input, out),
+        Kind::Recovery => calls::recovery(input, out),
+        Kind::SpeechEntry => calls::speech(input, floats, out),
+        Kind::RegionEntry => calls::region(input, floats, out),
+        Kind::Nuclei => calls::nuclei(input, floats, out),
+        Kind::Extras => calls::extras(input, floats, out),
+        Kind::BoundariesWith => calls::boundaries_with(input, floats, out),
+        Kind::Boundaries => calls::boundaries(input, floats, out),
+        Kind::Chain => whole::chain(input, floats, out),
+        Kind::TakeFile => whole::listing(input, out),
     }
 }
 
-fn answer_on(kind: u8, input: &[u8], floats: &[f32], out: &mut [u8]) -> usize {
-    match form(kind) {
-        1 => values::answer(kind, input, out),
-        2 => short::answer(kind, input, floats, out),
-        3 => tracks::runs_and_extrema(kind, input, floats, out),
-        4 => tracks::answer(kind, input, floats, out),
-        5 => calls::answer(kind, input, floats, out),
-        _ => whole::answer(kind, input, floats, out),
-    }
-}
-
-// Writes the answer to an input of a kind to the front of out, and returns its length; 0 for a kind that is not known.
+// Writes the answer to an input of a kind to the front of out, and returns its length; 0 for a kind that is not known. A kind
+// comes as a number, as the list of answers has it.
 pub fn answer(kind: u8, input: &[u8], out: &mut [u8]) -> usize {
-    let floats = tables::floats_in(input);
-    answer_on(kind, input, tables::part(&floats, 0, input.len() / 4), out)
+    let mut answer = Out::new(out);
+    if let Ok(known) = Kind::try_from(kind) {
+        write_answer(known, input, &mut answer);
+    }
+    answer.len()
 }

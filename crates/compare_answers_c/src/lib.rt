@@ -7,7 +7,9 @@ ghost use Rattle.std.specs.Prelude.{◌≡◌, ◌+◌, ◌≤◌, length};
 ghost use Rattle.lists.specs.Sorted.{StrictlyRises};
 ghost use Rattle.repair.specs.Repair.{Pitches};
 
-use region::{Region, default_settings};
+use chain::Marks;
+use region::default_settings;
+use runs::voiced::Span;
 use smooth::extrema::Extremum;
 
 // The answer to an input of a kind, at the front of out; returns its length.
@@ -22,8 +24,8 @@ pub extern "C" fn judge_region(db: &[f32]) -> u64
     requires { length db.now ≤ 2048 }
 {
     match region::speech_region(db, default_settings()) {
-        Region::Nowhere => 0,
-        Region::Span(start, end) => (start as u64) * 0x1_0000_0000 + (end as u64),
+        None => 0,
+        Some(r) => (u64::from(r.start) << 32) | u64::from(r.end),
     }
 }
 
@@ -34,13 +36,32 @@ pub extern "C" fn judge_level(db: &[f32], out: &mut [f32])
     smooth::level::smoothed_db(db, out);
 }
 
+// Writes the extrema of a kind to the front of out, and returns how many they are.
+#[tactic(auto, using(smooth::proofs::Stretches::extrema_fit))]
+fn put_extrema(s: &[f32], kind: Extremum, out: &mut [u32]) -> usize
+    requires { (length s.now ≤ length out.old) × (length s.now ≤ 2048) }
+{
+    let found = smooth::extrema::local_extrema(s, 0, s.len(), kind);
+    out[..found.len()].copy_from_slice(found.as_slice());
+    found.len()
+}
+
 // Maxima, then minima over them in the same list; returns the count of the minima.
 #[unsafe(no_mangle)]
 pub extern "C" fn judge_extrema(s: &[f32], out: &mut [u32]) -> usize
     requires { (length s.now ≤ length out.old) × (length s.now ≤ 2048) }
 {
-    smooth::extrema::local_extrema(s, 0, s.len(), Extremum::Max, out);
-    smooth::extrema::local_extrema(s, 0, s.len(), Extremum::Min, out)
+    put_extrema(s, Extremum::Max, out);
+    put_extrema(s, Extremum::Min, out)
+}
+
+// Writes the first and last frames of runs to two lists, and returns how many they are.
+fn put_spans(runs: &[Span], a: &mut [u32], b: &mut [u32]) -> usize {
+    for (run, (first, last)) in runs.iter().zip(a.iter_mut().zip(b.iter_mut())) {
+        *first = run.first;
+        *last = run.last;
+    }
+    runs.len()
 }
 
 // Long runs, then syllable runs, then dropouts in the same lists; returns the count of the dropouts.
@@ -48,9 +69,9 @@ pub extern "C" fn judge_extrema(s: &[f32], out: &mut [u32]) -> usize
 pub extern "C" fn judge_runs(pitch: &[f32], a: &mut [u32], b: &mut [u32]) -> usize
     requires { (length pitch.now ≤ 2048) × (length pitch.now ≤ length a.old) × (length pitch.now ≤ length b.old) }
 {
-    runs::voiced::long_runs(pitch, a, b);
-    runs::syllables::syllable_runs(pitch, a, b);
-    runs::syllables::dropouts(pitch, a, b)
+    put_spans(&runs::voiced::long_runs(pitch), a, b);
+    put_spans(&runs::syllables::syllable_runs(pitch), a, b);
+    put_spans(&runs::syllables::dropouts(pitch), a, b)
 }
 
 // Octave repair.
@@ -162,7 +183,7 @@ pub extern "C" fn judge_chain(
     edges: &mut [u32],
     bounds: &mut [u32],
 ) -> u32 {
-    let m = chain::chain(
+    let m = Marks::from(chain::chain(
         db,
         pitch,
         voiced,
@@ -176,6 +197,6 @@ pub extern "C" fn judge_chain(
         xstrengths,
         edges,
         bounds,
-    );
+    ));
     m.refusal
 }

@@ -3,92 +3,55 @@
 // words, the most significant byte first.
 #![tactic(auto)]
 
-use compare_answers::fields::{part_at, size};
+use compare_answers::fields::size;
 use std::io;
 use std::io::Read;
 
-// What became of a record.
-#[derive(Clone, Copy)]
-pub enum Outcome {
-    Same,
-    Differs,
-    End,
-    Broken,
-}
-
-// More bytes than a buffer holds.
-const BROKEN: usize = 0xffff_ffff;
-
-// Reads a length and as many bytes to the front of a buffer, and returns how many; `BROKEN` where the list ends first or the
-// buffer has no room.
-fn read_field<R: Read>(list: &mut R, buf: &mut [u8]) -> usize {
+// Reads a length and as many bytes to the front of a buffer, and returns these; `None` where the list ends first or the buffer
+// has no room.
+fn read_field<'a, R: Read>(list: &mut R, buf: &'a mut [u8]) -> Option<&'a [u8]> {
     let mut length = [0u8; 4];
-    if list.read_exact(&mut length).is_err() {
-        return BROKEN;
-    }
-    let n = size(&length, 0);
-    if buf.len() < n {
-        return BROKEN;
-    }
-    if list.read_exact(&mut buf[0..n]).is_err() {
-        return BROKEN;
-    }
-    n
+    list.read_exact(&mut length).ok()?;
+    let field = buf.get_mut(..size(&length, 0))?;
+    list.read_exact(field).ok()?;
+    Some(field)
 }
 
 // Whether ours is the answer.
 fn is_answer(kind: u8, input: &[u8], answer: &[u8]) -> bool {
     let mut ours = [0u8; 65536];
     let n = compare_answers::answer(kind, input, &mut ours);
-    part_at(&ours, 0, n) == answer
+    ours.get(..n) == Some(answer)
 }
 
-// The rest of a record, whose kind is read. Tells which record has another answer.
-fn replay<R: Read>(rt: &impl Print, list: &mut R, record: u64, kind: u8) -> io::Result<Outcome> {
+// Whether the answer of a record is ours, once its kind is read; `None` where the list breaks off inside the record.
+fn replay<R: Read>(list: &mut R, kind: u8) -> Option<bool> {
     let mut input = [0u8; 65536];
-    let n = read_field(list, &mut input);
     let mut answer = [0u8; 65536];
-    let m = read_field(list, &mut answer);
-    if n == BROKEN {
-        return Ok(Outcome::Broken);
-    }
-    if m == BROKEN {
-        return Ok(Outcome::Broken);
-    }
-    if is_answer(kind, part_at(&input, 0, n), part_at(&answer, 0, m)) {
-        return Ok(Outcome::Same);
-    }
-    println!(rt; "record {record} of kind {kind} differs")?;
-    Ok(Outcome::Differs)
-}
-
-fn replay_next<R: Read>(rt: &impl Print, list: &mut R, record: u64) -> io::Result<Outcome> {
-    let mut kind = [0u8; 1];
-    if list.read_exact(&mut kind).is_err() {
-        return Ok(Outcome::End);
-    }
-    replay(rt, list, record, kind[0])
+    let asked = read_field(list, &mut input)?;
+    let told = read_field(list, &mut answer)?;
+    Some(is_answer(kind, asked, told))
 }
 
 fn report(rt: &impl Print, records: u64, differ: u64) -> io::Result<()> {
     println!(rt; "{records} records replayed, {differ} differ")
 }
 
+// Replays the list to its end, and tells which records have another answer.
 fn replay_all<R: Read>(rt: &impl Print, list: &mut R) -> io::Result<()> {
     let mut differ: u64 = 0;
     for record in 0..0x1_0000_0000u64 {
-        match replay_next(rt, list, record)? {
-            Outcome::Same => {}
-            Outcome::Differs => {
-                differ = differ.wrapping_add(1);
-            }
-            Outcome::End => {
-                return report(rt, record, differ);
-            }
-            Outcome::Broken => {
-                println!(rt; "the list breaks off inside a record")?;
-                return report(rt, record, differ);
-            }
+        let mut kind = [0u8; 1];
+        if list.read_exact(&mut kind).is_err() {
+            return report(rt, record, differ);
+        }
+        let Some(same) = replay(list, kind[0]) else {
+            println!(rt; "the list breaks off inside a record")?;
+            return report(rt, record, differ);
+        };
+        if !same {
+            println!(rt; "record {record} of kind {} differs", kind[0])?;
+            differ = differ.wrapping_add(1);
         }
     }
     Ok(())

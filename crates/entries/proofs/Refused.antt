@@ -9,7 +9,7 @@ use Rattle.lists.specs.Results.{Listed, overlay}
 use Rattle.region.specs.Speech.{region_of}
 use Rattle.region.specs.declared.Settings.{Settings}
 use Rattle.region.specs.declared.Region.{Region}
-use Rattle.region.specs.declared.Region.TheVariants.{Nowhere, Span}
+use Rattle.std.specs.Prelude.{Option, None, Some}
 use Rattle.nuclei.specs.Nuclei.{frames_of, strengths_of}
 use Rattle.admit.specs.Refusals.{region_refusal}
 use Rattle.entries.specs.declared.stages.Answer.{Answer}
@@ -26,10 +26,10 @@ unchanged f l {old = old} {new} {r} none e n h =
     record { count = g.count; entries = g.entries }
 
 -- the number that stands with a region
-spanned_number : (number : ℕ) (g : Region) → (spanned number g).refusal ≡ number
+spanned_number : (number : ℕ) (g : Option Region) → (spanned number g).refusal ≡ number
 unfolding spanned
-spanned_number number Nowhere = refl
-spanned_number number (Span start end) = refl
+spanned_number number None = refl
+spanned_number number (Some r) = refl
 
 module _ (db : List Float) (p : Settings) where
   pub marks_refused : (old new : List ℕ) (r : Answer) → MarksCall db p old new r → (r.refusal ≡ 0 → ⊥) → Unchanged old new r.count
@@ -38,8 +38,8 @@ module _ (db : List Float) (p : Settings) where
   pub region_refused : (r : Spanned) → RegionCall db p r → (r.refusal ≡ 0 → ⊥) → (r.found ≡ false) × (r.start ≡ 0) × (r.end ≡ 0)
   unfolding spanned
   region_refused r e n =
-      let number = ap (λ (a : Spanned). a.refusal) e ∙ spanned_number _ (if_admitted (region_refusal db p) (region_of db p) Nowhere) in
-      let gone : r ≡ spanned (region_refusal db p) Nowhere = e ∙ ap (spanned (region_refusal db p)) (sym (refused_is _ _ number n)) in
+      let number = ap (λ (a : Spanned). a.refusal) e ∙ spanned_number _ (if_admitted (region_refusal db p) (region_of db p) None) in
+      let gone : r ≡ spanned (region_refusal db p) None = e ∙ ap (spanned (region_refusal db p)) (sym (refused_is _ _ number n)) in
       (ap (λ (a : Spanned). a.found) gone, ap (λ (a : Spanned). a.start) gone, ap (λ (a : Spanned). a.end) gone)
 
 pub repair_refused : (old new : List Float) (r : ℕ) → RepairCall old new r → (r ≡ 0 → ⊥) → new ≡ old

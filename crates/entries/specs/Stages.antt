@@ -1,16 +1,18 @@
 -- What each stage's entry answers and leaves, whatever it is given. Definitions only.
-use Rattle.std.specs.Prelude.{ℕ, zero, suc, ◌≡◌, true, false, List, [], ℤ, length, Float}
+use Rattle.std.specs.Prelude.{ℕ, zero, suc, ◌≡◌, true, false, List, [], ℤ, length, Option, None, Some, Result, Ok, Err, Float}
 use Rattle.lists.specs.Results.{Listed}
 use Rattle.region.specs.Defaults.{defaults}
 use Rattle.region.specs.Speech.{marks_of, region_of}
 use Rattle.region.specs.declared.Settings.{Settings}
 use Rattle.region.specs.declared.Region.{Region}
-use Rattle.region.specs.declared.Region.TheVariants.{Nowhere, Span}
 use Rattle.repair.specs.Repair.{repaired}
 use Rattle.recover.specs.Recovered.{recovered}
 use Rattle.nuclei.specs.Nuclei.{Nucleus, nuclei_of, frames_of, strengths_of}
 use Rattle.boundaries.specs.Boundaries.{boundaries_of}
 use Rattle.extra.specs.Extra.{extras_of, edges_of}
+use Rattle.extra.specs.declared.Counts.{Counts}
+use Rattle.admit.specs.declared.numbers.Refusal.{Refusal}
+use Rattle.admit.specs.Numbers.{number_at}
 use Rattle.admit.specs.Refusals.{speech_refusal, region_refusal, repair_refusal, recovery_refusal, nuclei_refusal, extras_refusal, boundaries_refusal, boundaries_with_refusal}
 use Rattle.entries.specs.declared.stages.Answer.{Answer}
 use Rattle.entries.specs.declared.stages.Spanned.{Spanned}
@@ -32,9 +34,27 @@ abbrev pub InPlace : ℕ → List Float → List Float → List Float → ℕ �
 InPlace number found old new r = (r ≡ number) × (new ≡ if_admitted number found old)
 
 -- the number and the values that stand for a region: its two ends, or that none is found and 0 for both
-unfoldable pub spanned : ℕ → Region → Spanned
-spanned refusal Nowhere = record { refusal = refusal; found = false; start = 0; end = 0 }
-spanned refusal (Span start end) = record { refusal = refusal; found = true; start = start; end = end }
+unfoldable pub spanned : ℕ → Option Region → Spanned
+spanned refusal None = record { refusal = refusal; found = false; start = 0; end = 0 }
+spanned refusal (Some r) = record { refusal = refusal; found = true; start = r.start; end = r.end }
+
+-- ---- the numbers that stand for what an entry answers, as C callers get them
+-- a refusal, or a count
+abbrev pub answer_of : Result ℕ Refusal → Answer
+answer_of (Ok n) = record { refusal = 0; count = n }
+answer_of (Err r) = record { refusal = number_at r; count = 0 }
+
+-- a refusal, or what is found of a region
+abbrev pub spanned_of : Result (Option Region) Refusal → Spanned
+spanned_of (Ok found) = spanned 0 found
+spanned_of (Err r) = spanned (number_at r) None
+
+-- a refusal, or two counts
+abbrev pub counted_of : Result Counts Refusal → Counted
+counted_of (Ok n) = record { refusal = 0; extras = n.extras; edges = n.edges }
+counted_of (Err r) = record { refusal = number_at r; extras = 0; edges = 0 }
+
+-- ---- of each entry
 
 -- `speech_marks`
 abbrev pub MarksCall : List Float → Settings → List ℕ → List ℕ → Answer → Type 0
@@ -42,7 +62,7 @@ MarksCall db p old new r = Answered (speech_refusal db p (length old)) (marks_of
 
 -- `region`
 abbrev pub RegionCall : List Float → Settings → Spanned → Type 0
-RegionCall db p r = let number = region_refusal db p in r ≡ spanned number (if_admitted number (region_of db p) Nowhere)
+RegionCall db p r = let number = region_refusal db p in r ≡ spanned number (if_admitted number (region_of db p) None)
 
 -- `repair`
 abbrev pub RepairCall : List Float → List Float → ℕ → Type 0

@@ -1,18 +1,21 @@
-// The stages one by one. An entry first asks for the refusal number of what it is given; if that is not 0 it returns the
-// number, with counts of 0, and leaves every lent track and list as it was.
-ghost use Rattle.std.specs.Prelude.{◌≡◌, false};
-ghost use Rattle.entries.specs.Stages.{MarksCall, RegionCall, RepairCall, RecoverCall, NucleiCall, ExtrasCall, BoundariesWithCall, BoundariesCall};
+// The stages one by one. An entry first asks whether what it is given is admitted; if it is not, it answers the refusal and
+// leaves every lent track and list as it was. For C callers each answer stands in a record of numbers.
+// Tracks, lists and ends of a region are parameters of their own, as the C interface gives them.
+ghost use Rattle.admit.specs.Numbers.{number_of};
+ghost use Rattle.entries.specs.Stages.{answer_of, spanned, spanned_of, counted_of, MarksCall, RegionCall, RepairCall, RecoverCall, NucleiCall, ExtrasCall, BoundariesWithCall, BoundariesCall};
+ghost use Rattle.std.specs.Prelude.{◌≡◌};
 
+use admit::numbers::Refusal;
 use admit::{
     boundaries_refusal, boundaries_with_refusal, extras_refusal, nuclei_refusal, recovery_refusal,
     region_refusal, repair_refusal, speech_refusal,
 };
-use extra::extra_candidates;
+use extra::{Counts, extra_candidates};
 use recover::recover_pitch;
 use region::{Region, Settings, speech_frames, speech_region};
 use repair::repair_octaves;
 
-// The refusal number, 0 for none, and how many entries were written.
+// For C: the refusal number, 0 for none, and how many entries were written.
 #[repr(C)]
 #[derive(Clone, Copy)]
 pub struct Answer {
@@ -20,7 +23,8 @@ pub struct Answer {
     pub count: usize,
 }
 
-// The refusal number, and the region from start to before end, where one is found.
+// For C: the refusal number, and the region from start to before end, where one is found. Where there is none, and after a
+// refusal, its ends are 0.
 #[repr(C)]
 #[derive(Clone, Copy)]
 pub struct Spanned {
@@ -30,7 +34,7 @@ pub struct Spanned {
     pub end: u32,
 }
 
-// The refusal number, and how many extra candidates and edges were written.
+// For C: the refusal number, and how many extra candidates and edges were written.
 #[repr(C)]
 #[derive(Clone, Copy)]
 pub struct Counted {
@@ -39,81 +43,113 @@ pub struct Counted {
     pub edges: usize,
 }
 
-// Writes 1 for each frame of speech and 0 for each other one.
-pub fn speech_marks(db: &[f32], p: Settings, marks: &mut [u8]) -> Answer
-    ensures { MarksCall db.now p marks.old marks.new result }
-{
-    let number = speech_refusal(db, p, marks.len());
-    if number != 0 {
-        return Answer {
-            refusal: number,
-            count: 0,
-        };
+impl From<Result<usize, Refusal>> for Answer {
+    ghost from_gives = { λ r a. a ≡ answer_of r };
+
+    fn from(r: Result<usize, Refusal>) -> Answer {
+        match r {
+            Ok(count) => Answer { refusal: 0, count },
+            Err(refusal) => Answer {
+                refusal: u32::from(refusal),
+                count: 0,
+            },
+        }
     }
+}
+
+// The record of a refusal's number, 0 for none, and a region.
+#[tactic(auto, unfolding(crate::specs::Stages::spanned))]
+fn with_ends(refusal: u32, found: Option<Region>) -> Spanned
+    ensures { result ≡ spanned refusal found }
+{
+    match found {
+        None => Spanned {
+            refusal,
+            found: false,
+            start: 0,
+            end: 0,
+        },
+        Some(r) => Spanned {
+            refusal,
+            found: true,
+            start: r.start,
+            end: r.end,
+        },
+    }
+}
+
+impl From<Result<Option<Region>, Refusal>> for Spanned {
+    ghost from_gives = { λ r a. a ≡ spanned_of r };
+
+    fn from(r: Result<Option<Region>, Refusal>) -> Spanned {
+        match r {
+            Ok(found) => with_ends(0, found),
+            Err(refusal) => with_ends(u32::from(refusal), None),
+        }
+    }
+}
+
+impl From<Result<Counts, Refusal>> for Counted {
+    ghost from_gives = { λ r a. a ≡ counted_of r };
+
+    fn from(r: Result<Counts, Refusal>) -> Counted {
+        match r {
+            Ok(counts) => Counted {
+                refusal: 0,
+                extras: counts.extras,
+                edges: counts.edges,
+            },
+            Err(refusal) => Counted {
+                refusal: u32::from(refusal),
+                extras: 0,
+                edges: 0,
+            },
+        }
+    }
+}
+
+// Writes 1 for each frame of speech and 0 for each other one, and answers how many.
+pub fn speech_marks(db: &[f32], p: Settings, marks: &mut [u8]) -> Result<usize, Refusal>
+    ensures { MarksCall db.now p marks.old marks.new (answer_of result) }
+{
+    speech_refusal(db, p, marks.len())?;
     speech_frames(db, p, marks);
-    Answer {
-        refusal: 0,
-        count: db.len(),
-    }
+    Ok(db.len())
 }
 
-// Finds the region. Where there is none, and after a refusal, its ends are 0.
-pub fn region(db: &[f32], p: Settings) -> Spanned
-    ensures { RegionCall db.now p result }
+// Finds the region.
+pub fn region(db: &[f32], p: Settings) -> Result<Option<Region>, Refusal>
+    ensures { RegionCall db.now p (spanned_of result) }
 {
-    let number = region_refusal(db, p);
-    if number != 0 {
-        return nowhere(number);
-    }
-    let Region::Span(start, end) = speech_region(db, p) else {
-        return nowhere(0);
-    };
-    Spanned {
-        refusal: 0,
-        found: true,
-        start: start,
-        end: end,
-    }
+    region_refusal(db, p)?;
+    Ok(speech_region(db, p))
 }
 
-// The answer without a region.
-fn nowhere(refusal: u32) -> Spanned
-    ensures { result ≡ record { refusal = refusal; found = false; start = 0; end = 0 } }
+// Puts octave errors right in place.
+pub fn repair(pitch: &mut [f32]) -> Result<(), Refusal>
+    ensures { RepairCall pitch.old pitch.new (number_of result) }
 {
-    Spanned {
-        refusal: refusal,
-        found: false,
-        start: 0,
-        end: 0,
-    }
-}
-
-// Puts octave errors right in place, and returns the refusal number.
-pub fn repair(pitch: &mut [f32]) -> u32
-    ensures { RepairCall pitch.old pitch.new result }
-{
-    let number = repair_refusal(pitch);
-    if number != 0 {
-        return number;
-    }
+    repair_refusal(pitch)?;
     repair_octaves(pitch);
-    0
+    Ok(())
 }
 
-// Gives pitches to periodic stretches of speech without one, in place, and returns the refusal number.
-pub fn recover(pitch: &mut [f32], samples: &[i16], speech: &[u8], vowel: &[u8]) -> u32
+// Gives pitches to periodic stretches of speech without one, in place.
+pub fn recover(
+    pitch: &mut [f32],
+    samples: &[i16],
+    speech: &[u8],
+    vowel: &[u8],
+) -> Result<(), Refusal>
     ensures { RecoverCall samples.now speech.now vowel.now pitch.old
-        pitch.new result }
+        pitch.new (number_of result) }
 {
-    let number = recovery_refusal(pitch, samples.len(), speech, vowel);
-    if number != 0 {
-        return number;
-    }
+    recovery_refusal(pitch, samples.len(), speech, vowel)?;
     recover_pitch(pitch, samples, speech, vowel);
-    0
+    Ok(())
 }
 
-// Writes the frames and strengths of the nuclei in start..end.
+// Writes the frames and strengths of the nuclei in start..end, and answers how many.
 pub fn nuclei(
     db: &[f32],
     pitch: &[f32],
@@ -122,26 +158,16 @@ pub fn nuclei(
     p: Settings,
     frames: &mut [u32],
     strengths: &mut [f32],
-) -> Answer
+) -> Result<usize, Refusal>
     ensures { NucleiCall db.now pitch.now start end p frames.old frames.new
-        strengths.old strengths.new result }
+        strengths.old strengths.new (answer_of result) }
 {
-    let number = nuclei_refusal(db, pitch, start, end, p, frames.len(), strengths.len());
-    if number != 0 {
-        return Answer {
-            refusal: number,
-            count: 0,
-        };
-    }
-    let count = nuclei::nuclei(db, pitch, start, end, p, frames, strengths);
-    Answer {
-        refusal: 0,
-        count: count,
-    }
+    nuclei_refusal(db, pitch, start, end, p, frames.len(), strengths.len())?;
+    Ok(nuclei::nuclei(db, pitch, start, end, p, frames, strengths))
 }
 
-// Writes the frames and strengths of the extra candidates, and their edges. A sonority of another length than the track
-// gives none.
+// Writes the frames and strengths of the extra candidates, and their edges, and answers how many. A sonority of another
+// length than the track gives none.
 pub fn extras(
     db: &[f32],
     pitch: &[f32],
@@ -153,12 +179,12 @@ pub fn extras(
     frames: &mut [u32],
     strengths: &mut [f32],
     edges: &mut [u32],
-) -> Counted
+) -> Result<Counts, Refusal>
     ensures { ExtrasCall db.now pitch.now sonority.now start end nuclei.now p
         frames.old frames.new strengths.old strengths.new edges.old
-        edges.new result }
+        edges.new (counted_of result) }
 {
-    let number = extras_refusal(
+    extras_refusal(
         db,
         pitch,
         sonority,
@@ -169,25 +195,13 @@ pub fn extras(
         frames.len(),
         strengths.len(),
         edges.len(),
-    );
-    if number != 0 {
-        return Counted {
-            refusal: number,
-            extras: 0,
-            edges: 0,
-        };
-    }
-    let counts = extra_candidates(
+    )?;
+    Ok(extra_candidates(
         db, pitch, sonority, start, end, nuclei, p, frames, strengths, edges,
-    );
-    Counted {
-        refusal: 0,
-        extras: counts.extras,
-        edges: counts.edges,
-    }
+    ))
 }
 
-// Writes the boundaries of start..end under given settings.
+// Writes the boundaries of start..end under given settings, and answers how many.
 pub fn boundaries_with(
     db: &[f32],
     pitch: &[f32],
@@ -197,25 +211,15 @@ pub fn boundaries_with(
     nuclei: &[u32],
     p: Settings,
     out: &mut [u32],
-) -> Answer
+) -> Result<usize, Refusal>
     ensures { BoundariesWithCall db.now pitch.now voiced.now start end
-        nuclei.now p out.old out.new result }
+        nuclei.now p out.old out.new (answer_of result) }
 {
-    let number = boundaries_with_refusal(db, pitch, voiced, start, end, nuclei, p, out.len());
-    if number != 0 {
-        return Answer {
-            refusal: number,
-            count: 0,
-        };
-    }
-    let count = boundaries::boundaries_with(db, pitch, voiced, start, end, nuclei, p, out);
-    Answer {
-        refusal: 0,
-        count: count,
-    }
+    boundaries_with_refusal(db, pitch, voiced, start, end, nuclei, p, out.len())?;
+    Ok(boundaries::boundaries_with(db, pitch, voiced, start, end, nuclei, p, out))
 }
 
-// Writes the boundaries of start..end under the defaults.
+// Writes the boundaries of start..end under the defaults, and answers how many.
 pub fn boundaries(
     db: &[f32],
     pitch: &[f32],
@@ -224,20 +228,10 @@ pub fn boundaries(
     end: usize,
     nuclei: &[u32],
     out: &mut [u32],
-) -> Answer
+) -> Result<usize, Refusal>
     ensures { BoundariesCall db.now pitch.now voiced.now start end nuclei.now
-        out.old out.new result }
+        out.old out.new (answer_of result) }
 {
-    let number = boundaries_refusal(db, pitch, voiced, start, end, nuclei, out.len());
-    if number != 0 {
-        return Answer {
-            refusal: number,
-            count: 0,
-        };
-    }
-    let count = boundaries::boundaries(db, pitch, voiced, start, end, nuclei, out);
-    Answer {
-        refusal: 0,
-        count: count,
-    }
+    boundaries_refusal(db, pitch, voiced, start, end, nuclei, out.len())?;
+    Ok(boundaries::boundaries(db, pitch, voiced, start, end, nuclei, out))
 }

@@ -2,41 +2,32 @@
 -- Assumes nothing.
 use Prim.Native.Nat.{ℕ, zero, suc, ◌+◌, ◌-◌, ◌<◌, ◌≤◌, max}
 use native.Mathlib.Omega.{arith}
-use native.Mathlib.Numerals.{add-one}
 use mathlib.Core.Path.{◌≡◌, refl, sym, ap, subst, ◌∙◌}
 use mathlib.Core.Bool.{Bool, true, false, ◌&&◌, false≢true}
-use mathlib.Core.List.{List, [], ◌∷◌, map}
+use mathlib.Core.List.{List, [], ◌∷◌, ◌++◌, append-nil}
 use lib.Dec.{leb, ltb}
-use lib.ListN.{length, get_or, take, drop, length-map, drop_of_length-le}
+use lib.ListN.{length, get_or, take, drop, drop_of_length-le}
 use lib.Ieee.{Float}
 use borrow.Author.Tests.{leb-true, leb-false, le-leb, lt-leb, ltb-true, lt-ltb, le-ltb}
 use Rattle.lists.specs.Results.{cons_if, filter}
 use Rattle.lists.specs.By.{Each}
 use Rattle.lists.specs.Sorted.{StrictlyRises}
 use Rattle.lists.proofs.Tests.{and_cases}
-use Rattle.lists.proofs.Fill.{drop_step, map_cons_if, filter_le}
-use Rattle.lists.proofs.Entries.{each_map, each_append}
+use Rattle.lists.proofs.Fill.{drop_step}
+use Rattle.lists.proofs.Entries.{each_map}
 use Rattle.lists.proofs.Members.{strict_from}
-use Rattle.runs.specs.Runs.{Span, spans, Spaced}
-use Rattle.runs.proofs.Spans.{run_at, spans_from, spans_step, spans_over, length_spans}
-use lib.Seq.{take-suc}
-use Rattle.extra.specs.declared.seconds.Held.TheVariants.{One, Other}
+use Rattle.runs.specs.declared.voiced.Span.{Span}
+use Rattle.runs.specs.Runs.{Spaced}
+use Rattle.std.specs.Prelude.{Option, None, Some}
+use Rattle.runs.proofs.Spacing.{spaced_few}
+use Rattle.runs.proofs.Pushing.{push_room, push_on}
 use Rattle.extra.specs.declared.seconds.Second.{Second}
-use Rattle.extra.specs.Seconds.{holds, only_one, held_by, second_in, there, seconds}
+use Rattle.extra.specs.Seconds.{holds, only_one, held_by, second_in, with_some, seconds}
 use Rattle.extra.specs.Passing.{Passed, Reached}
 
 -- ---- the first frame that does not lie before the run
-pub passed_none : (kept : List ℕ) (a : ℕ) → Passed kept a 0
-passed_none kept a = record { within = omega arith; earlier = tt }
-
 pub passed_up : {kept : List ℕ} {q : ℕ} (a b : ℕ) → a ≤ b → Passed kept a q → Passed kept b q
 passed_up {kept} {q} a b h p = record { within = p.within; earlier = each_map (λ f. f + 2 < a) (λ f. f + 2 < b) (λ f e. omega arith) (take q kept) p.earlier }
-
-pub passed_on : (kept : List ℕ) (a q : ℕ) → q < length kept → get_or kept q 0 + 2 < a → Passed kept a q → Passed kept a (q + 1)
-passed_on kept a q h e p = record {
-  within = omega arith;
-  earlier = subst (Each (λ f. f + 2 < a)) (sym (ap (λ (n : ℕ). take n kept) (add-one q) ∙ take-suc kept q 0 h)) (each_append (λ f. f + 2 < a) (take q kept) (get_or kept q 0 ∷ []) p.earlier (e, tt));
-}
 
 -- ---- what a run holds
 module _ (r : Span) where
@@ -78,7 +69,7 @@ module _ (r : Span) where
   unfolding filter
   one_held lo n x xs s o e f = ap (λ (b : Bool). cons_if b x (filter (holds r) xs)) (holds_yes x o (leb-true x (r.last + 2) e)) ∙ ap (λ (l : List ℕ). x ∷ l) (none_held (x + 1) n xs s.2 f)
 
-  two_held : (lo n x : ℕ) (xs : List ℕ) → StrictlyRises lo n (x ∷ xs) → Onward (x ∷ xs) → reach (x ∷ xs) ≡ true → reach xs ≡ true → only_one (filter (holds r) (x ∷ xs)) ≡ Other
+  two_held : (lo n x : ℕ) (xs : List ℕ) → StrictlyRises lo n (x ∷ xs) → Onward (x ∷ xs) → reach (x ∷ xs) ≡ true → reach xs ≡ true → only_one (filter (holds r) (x ∷ xs)) ≡ None
   unfolding filter
   two_held lo n x [] s o e f = absurd (false≢true f)
   two_held lo n x (y ∷ ys) s o e f =
@@ -116,7 +107,7 @@ module _ (kept : List ℕ) (r : Span) (q n : ℕ) (rises : StrictlyRises 0 n kep
   risen : StrictlyRises 0 n (drop q kept)
   risen = strict_drop 0 n kept q rises
 
-  pub held_none : reaching q ≡ false → Other ≡ held_by kept r
+  pub held_none : reaching q ≡ false → None ≡ held_by kept r
   unfolding held_by
   held_none e = sym (ap only_one (here ∙ none_held r 0 n (drop q kept) risen (reach_is q ∙ e)))
 
@@ -133,53 +124,67 @@ module _ (kept : List ℕ) (r : Span) (q n : ℕ) (rises : StrictlyRises 0 n kep
     reached : leb (get_or kept q 0) (r.last + 2) ≡ true
     reached = (and_cases (ltb q (length kept)) (leb (get_or kept q 0) (r.last + 2)) e).1
 
-    pub held_one : reaching (q + 1) ≡ false → One (get_or kept q 0) ≡ held_by kept r
+    pub held_one : reaching (q + 1) ≡ false → Some (get_or kept q 0) ≡ held_by kept r
     unfolding held_by
     held_one f = sym (ap only_one (here ∙ ap (filter (holds r)) first_is ∙ one_held r 0 n (get_or kept q 0) (drop (q + 1) kept) rising (at.here h) reached (reach_is (q + 1) ∙ f)))
 
-    pub held_more : reaching (q + 1) ≡ true → Other ≡ held_by kept r
+    pub held_more : reaching (q + 1) ≡ true → None ≡ held_by kept r
     unfolding held_by
     held_more f = sym (ap only_one (here ∙ ap (filter (holds r)) first_is) ∙ two_held r 0 n (get_or kept q 0) (drop (q + 1) kept) rising (at.here h) reached (reach_is (q + 1) ∙ f))
 
 -- ---- the second syllables, a run at a time
 module _ (son : List Float) (kept : List ℕ) where
-  pub seconds_few : (rs : List Span) → length (seconds son kept rs) ≤ length rs
+  seconds_few : (rs : List Span) → length (seconds son kept rs) ≤ length rs
   unfolding seconds
-  seconds_few rs = omega (arith, filter_le there (map (second_in son kept) rs), length-map rs (second_in son kept))
+  seconds_few [] = omega arith
+  seconds_few (r ∷ rs) = go (second_in son kept r) (seconds_few rs)
+    where
+      go : (x : Option Second) → length (seconds son kept rs) ≤ length rs → length (with_some x (seconds son kept rs)) ≤ length (r ∷ rs)
+      go (Some x) h = omega arith
+      go None h = omega arith
 
-  module _ {A : Type 0} (g : Second → A) (fs ls : List ℕ) where
-    pub seconds_room : length (map g (seconds son kept (spans fs ls))) ≤ length fs
-    seconds_room = rw length-map (omega (arith, seconds_few (spans fs ls), length_spans fs ls))
+  -- of runs that are spaced in a track
+  pub seconds_room : (n : ℕ) (rs : List Span) → n ≤ 2048 → Spaced 0 n rs → length (seconds son kept rs) ≤ 512
+  seconds_room n rs h s = omega (arith, seconds_few rs, spaced_few 0 n rs (omega arith) s)
 
-    pub seconds_step : (i : ℕ) → i < length fs → i < length ls → map g (seconds son kept (spans_from fs ls i)) ≡ cons_if (there (second_in son kept (run_at fs ls i))) (g (second_in son kept (run_at fs ls i))) (map g (seconds son kept (spans_from fs ls (i + 1))))
-    unfolding seconds filter
-    seconds_step i h k =
-        let x = second_in son kept (run_at fs ls i) in
-        rw (spans_step fs ls i h k) (map_cons_if g (there x) x (seconds son kept (spans_from fs ls (i + 1))))
+  -- the runs from i on, with the frames before the q-th passed, and the second syllables so far
+  pub record Walking (n : ℕ) (rs : List Span) (done : List Second) (q i : ℕ) : Type 0 where
+    pub lo : ℕ
+    pub passed : Passed kept lo q
+    pub spaced : Spaced lo n (drop i rs)
+    pub whole : done ++ seconds son kept (drop i rs) ≡ seconds son kept rs
 
-    pub seconds_over : (i : ℕ) → length fs ≤ i → map g (seconds son kept (spans_from fs ls i)) ≡ []
-    unfolding seconds filter
-    seconds_over i h = rw (spans_over fs ls i h)
+  module _ (n : ℕ) (rs : List Span) where
+    module _ (i : ℕ) (h : i < length rs) {done : List Second} {q : ℕ} (w : Walking n rs done q i) where
+      abbrev run : Span
+      run = get_or rs i (record { first = 0; last = 0 })
 
--- the runs from i on, with the frames before the q-th passed
-pub record Walking (n : ℕ) (kept fs ls : List ℕ) (q i : ℕ) : Type 0 where
-  pub lo : ℕ
-  pub passed : Passed kept lo q
-  pub spaced : Spaced lo n (spans_from fs ls i)
+      next : drop i rs ≡ run ∷ drop (i + 1) rs
+      next = drop_step rs i (record { first = 0; last = 0 }) h
 
-module _ (n : ℕ) (kept fs ls : List ℕ) where
-  pub walk_start : Spaced 0 n (spans fs ls) → Walking n kept fs ls 0 0
-  walk_start s = record { lo = 0; passed = passed_none kept 0; spaced = s }
+      left : Spaced w.lo n (run ∷ drop (i + 1) rs)
+      left = subst (Spaced w.lo n) next w.spaced
 
-  module _ (i : ℕ) (h : i < length fs) (k : i < length ls) {q : ℕ} (w : Walking n kept fs ls q i) where
-    run : Spaced w.lo n (run_at fs ls i ∷ spans_from fs ls (i + 1))
-    run = subst (Spaced w.lo n) (spans_step fs ls i h k) w.spaced
+      pub walk_passed : Passed kept run.first q
+      walk_passed = passed_up w.lo run.first left.0 w.passed
 
-    pub walk_order : (get_or fs i 0 ≤ get_or ls i 0) × (get_or ls i 0 < n)
-    walk_order = (run.1, run.2)
+      now : done ++ with_some (second_in son kept run) (seconds son kept (drop (i + 1) rs)) ≡ seconds son kept rs
+      unfolding seconds
+      now = rw next at w.whole
 
-    pub walk_passed : Passed kept (get_or fs i 0) q
-    walk_passed = passed_up w.lo (get_or fs i 0) run.0 w.passed
+      module _ {q' : ℕ} (p : Passed kept run.first q') where
+        past : Passed kept (run.last + 4) q'
+        past = passed_up run.first (run.last + 4) (omega (arith, left.1)) p
 
-    pub walk_next : {q' : ℕ} → Passed kept (get_or fs i 0) q' → Walking n kept fs ls q' (i + 1)
-    walk_next p = record { lo = get_or ls i 0 + 4; passed = passed_up (get_or fs i 0) (get_or ls i 0 + 4) (omega (arith, run.1)) p; spaced = run.3 }
+        pub walk_none : second_in son kept run ≡ None → Walking n rs done q' (i + 1)
+        walk_none e = record { lo = run.last + 4; passed = past; spaced = left.3; whole = rw e at now }
+
+        pub walk_some : (x : Second) → second_in son kept run ≡ Some x → Walking n rs (done ++ (x ∷ [])) q' (i + 1)
+        walk_some x e = record { lo = run.last + 4; passed = past; spaced = left.3; whole = push_on done x (seconds son kept (drop (i + 1) rs)) (rw e at now) }
+
+      pub walk_room : (x : Second) → second_in son kept run ≡ Some x → length (seconds son kept rs) ≤ 512 → length done < 512
+      walk_room x e few = push_room done x (seconds son kept (drop (i + 1) rs)) (rw e at now) 512 few
+
+    pub walk_end : {done : List Second} {q i : ℕ} → length rs ≤ i → Walking n rs done q i → done ≡ seconds son kept rs
+    unfolding seconds
+    walk_end {done} {q} {i} h w = sym (append-nil done) ∙ rw (drop_of_length-le rs h) at w.whole

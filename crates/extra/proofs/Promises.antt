@@ -26,7 +26,8 @@ use Rattle.smooth.proofs.Best.{middle_within}
 use Rattle.region.specs.Percentile.{floor_of}
 use Rattle.region.specs.Speech.{bounds_over}
 use Rattle.region.specs.declared.Settings.{Settings}
-use Rattle.runs.specs.Runs.{Span, long_runs, Spaced}
+use Rattle.runs.specs.declared.voiced.Span.{Span}
+use Rattle.runs.specs.Runs.{long_runs, Spaced}
 use Rattle.runs.specs.Near.{distance}
 use Rattle.runs.proofs.Spacing.{long_spaced}
 use Rattle.region.specs.declared.Bounds.{Bounds}
@@ -35,16 +36,12 @@ use Rattle.nuclei.specs.Peaks.{pitch_near}
 use Rattle.nuclei.specs.Nuclei.{nucleus_at, over_floor, frames_of, nuclei_of}
 use Rattle.nuclei.proofs.Pitched.{PitchedRun, long_pitched}
 use Rattle.nuclei.proofs.Promises.{over_floor_lem, frames_back, take_rises, take_pitched}
-use Rattle.extra.specs.declared.split.Cut.{Cut}
-use Rattle.extra.specs.declared.split.Cut.TheVariants.{Before, Uncut}
-use Rattle.extra.specs.declared.seconds.Held.{Held}
-use Rattle.extra.specs.declared.seconds.Held.TheVariants.{One, Other}
+use Rattle.std.specs.Prelude.{Option, None, Some}
 use Rattle.extra.specs.declared.seconds.Second.{Second}
-use Rattle.extra.specs.declared.seconds.Second.TheVariants.{At, Nothing}
 use Rattle.extra.specs.Unpitched.{unpitched_peaks}
 use Rattle.extra.specs.Split.{split_of}
 use Rattle.extra.specs.Merging.{one_syllable, survivor, anchors}
-use Rattle.extra.specs.Seconds.{holds, only_one, held_by, other_part, after_cut, besides, second_in, there, frame_of, edge_of, seconds}
+use Rattle.extra.specs.Seconds.{holds, only_one, held_by, other_part, after_cut, besides, second_in, with_some, frame_of, edge_of, seconds}
 use Rattle.extra.specs.Extra.{edges_between, extras_from, edges_from, extra_frames, extra_edges, if_as_long, extras_of, edges_of}
 use Rattle.extra.proofs.Voiceless.{peaks_off}
 use Rattle.extra.proofs.Cuts.{split_within}
@@ -68,50 +65,50 @@ middle_inside r nucleus k h i = go (ltb nucleus k) refl
 
 module _ (son : List Float) (kept : List ℕ) (r : Span) where
   -- the anchor that a second syllable stands beside
-  abbrev Beside : Second → Type 0
-  Beside (At f e) = (g : ℕ) × (held_by kept r ≡ One g) × Inside r g f e
-  Beside Nothing = Unit
+  abbrev Beside : Option Second → Type 0
+  Beside (Some x) = (g : ℕ) × (held_by kept r ≡ Some g) × Inside r g x.frame x.edge
+  Beside None = Unit
 
   pub second_beside : Beside (second_in son kept r)
   unfolding second_in
   second_beside = by_held (held_by kept r) refl
     where
-      by_cut : (g : ℕ) → held_by kept r ≡ One g → (c : Cut) → split_of son r g ≡ c → Beside (after_cut r g c)
-      by_cut g h (Before k) e = let w = split_within son r g e in (g, h, middle_inside r g k w.0 w.1)
-      by_cut g h Uncut e = tt
+      by_cut : (g : ℕ) → held_by kept r ≡ Some g → (c : Option ℕ) → split_of son r g ≡ c → Beside (after_cut r g c)
+      by_cut g h (Some k) e = let w = split_within son r g e in (g, h, middle_inside r g k w.0 w.1)
+      by_cut g h None e = tt
 
-      by_held : (h : Held) → held_by kept r ≡ h → Beside (besides son r h)
-      by_held (One g) h = by_cut g h (split_of son r g) refl
-      by_held Other h = tt
+      by_held : (h : Option ℕ) → held_by kept r ≡ h → Beside (besides son r h)
+      by_held (Some g) h = by_cut g h (split_of son r g) refl
+      by_held None h = tt
 
 -- ---- the second syllables of runs that are spaced
 module _ (son : List Float) (kept : List ℕ) where
   -- what holds of the frame and the edge of each
-  seconds_each : (P : ℕ → Type 0) (g : Second → ℕ) (Q : Span → Type 0) → ((r : Span) → Q r → (f e k : ℕ) → held_by kept r ≡ One k → Inside r k f e → P (g (At f e))) → (rs : List Span) → Each Q rs → Each P (map g (seconds son kept rs))
-  unfolding seconds filter
+  seconds_each : (P : ℕ → Type 0) (g : Second → ℕ) (Q : Span → Type 0) → ((r : Span) → Q r → (x : Second) (k : ℕ) → held_by kept r ≡ Some k → Inside r k x.frame x.edge → P (g x)) → (rs : List Span) → Each Q rs → Each P (map g (seconds son kept rs))
+  unfolding seconds
   seconds_each P g Q p [] q = tt
   seconds_each P g Q p (r ∷ rs) q = go (second_in son kept r) (second_beside son kept r) (seconds_each P g Q p rs q.1)
     where
-      go : (x : Second) → Beside son kept r x → Each P (map g (seconds son kept rs)) → Each P (map g (cons_if (there x) x (seconds son kept rs)))
-      go (At f e) b on = (p r q.0 f e b.0 b.1 b.2, on)
-      go Nothing b on = on
+      go : (x : Option Second) → Beside son kept r x → Each P (map g (seconds son kept rs)) → Each P (map g (with_some x (seconds son kept rs)))
+      go (Some x) b on = (p r q.0 x b.0 b.1 b.2, on)
+      go None b on = on
 
-  seconds_rise : (g : Second → ℕ) → ((r : Span) (k f e : ℕ) → Inside r k f e → (r.first ≤ g (At f e)) × (g (At f e) ≤ r.last)) → (lo n : ℕ) (rs : List Span) → Spaced lo n rs → StrictlyRises lo n (map g (seconds son kept rs))
-  unfolding seconds filter
+  seconds_rise : (g : Second → ℕ) → ((r : Span) (k : ℕ) (x : Second) → Inside r k x.frame x.edge → (r.first ≤ g x) × (g x ≤ r.last)) → (lo n : ℕ) (rs : List Span) → Spaced lo n rs → StrictlyRises lo n (map g (seconds son kept rs))
+  unfolding seconds
   seconds_rise g w lo n [] s = tt
   seconds_rise g w lo n (r ∷ rs) s = go (second_in son kept r) (second_beside son kept r) (seconds_rise g w (r.last + 4) n rs s.3)
     where
-      go : (x : Second) → Beside son kept r x → StrictlyRises (r.last + 4) n (map g (seconds son kept rs)) → StrictlyRises lo n (map g (cons_if (there x) x (seconds son kept rs)))
-      go (At f e) b on =
-          let v = w r b.0 f e b.2 in
-          (omega (arith, v.0, s.0), omega (arith, v.1, s.2), strict_from (g (At f e) + 1) (r.last + 4) n (map g (seconds son kept rs)) (omega (arith, v.1)) on)
-      go Nothing b on = strict_from lo (r.last + 4) n (map g (seconds son kept rs)) (omega (arith, s.0, s.1)) on
+      go : (x : Option Second) → Beside son kept r x → StrictlyRises (r.last + 4) n (map g (seconds son kept rs)) → StrictlyRises lo n (map g (with_some x (seconds son kept rs)))
+      go (Some x) b on =
+          let v = w r b.0 x b.2 in
+          (omega (arith, v.0, s.0), omega (arith, v.1, s.2), strict_from (g x + 1) (r.last + 4) n (map g (seconds son kept rs)) (omega (arith, v.1)) on)
+      go None b on = strict_from lo (r.last + 4) n (map g (seconds son kept rs)) (omega (arith, s.0, s.1)) on
 
   pub second_frames_rise : (lo n : ℕ) (rs : List Span) → Spaced lo n rs → StrictlyRises lo n (map frame_of (seconds son kept rs))
-  second_frames_rise = seconds_rise frame_of (λ r k f e i. (i.after, i.before))
+  second_frames_rise = seconds_rise frame_of (λ r k x i. (i.after, i.before))
 
   pub second_edges_rise : (lo n : ℕ) (rs : List Span) → Spaced lo n rs → StrictlyRises lo n (map edge_of (seconds son kept rs))
-  second_edges_rise = seconds_rise edge_of (λ r k f e i. (i.edge_after, i.edge_before))
+  second_edges_rise = seconds_rise edge_of (λ r k x i. (i.edge_after, i.edge_before))
 
 -- ---- the edges between anchors
 between_below : (s : List Float) (peak : ℕ → Bool) (lo : ℕ) (kept : List ℕ) → StrictlyRises lo (length s) kept → Each (λ x. x < length s) (edges_between s peak kept)
@@ -166,7 +163,7 @@ module _ (s pitch son : List Float) (same : length pitch ≡ length s) where
         (λ f i j. true≢false (sym (each_member (λ x. pitch_near pitch x ≡ true) ys f near j) ∙ each_member (λ x. pitch_near pitch x ≡ false) peaks f off (and_cases (member peaks f) (member kept f) (sym (member_filter (member peaks) kept f) ∙ i)).0))
       where
         near : Each (λ x. pitch_near pitch x ≡ true) (map frame_of (seconds son kept (long_runs pitch)))
-        near = seconds_each son kept (λ x. pitch_near pitch x ≡ true) frame_of (PitchedRun pitch) (λ r q f e k h i. q f i.after i.before) (long_runs pitch) (long_pitched pitch)
+        near = seconds_each son kept (λ x. pitch_near pitch x ≡ true) frame_of (PitchedRun pitch) (λ r q x k h i. q x.frame i.after i.before) (long_runs pitch) (long_pitched pitch)
 
   module _ (b : Bounds) (p : Settings) (nuclei : List ℕ) where
     -- the extras are the kept unpitched peaks and the second syllables, sorted
@@ -251,7 +248,7 @@ anchor_kept s p nuclei peaks f m h e =
     ((in_order_is (nuclei ++ peaks) (length s)).holds f ∙ and_both (ltb f (length s)) (member (nuclei ++ peaks) f) (lt-ltb f (length s) h) (member_append nuclei peaks f ∙ or_left (member nuclei f) (member peaks f) e)))
 
 -- the only one is the one
-only_is : (xs : List ℕ) (g f : ℕ) → only_one xs ≡ One g → member xs f ≡ true → f ≡ g
+only_is : (xs : List ℕ) (g f : ℕ) → only_one xs ≡ Some g → member xs f ≡ true → f ≡ g
 unfolding member
 only_is [] g f e h = absurd (false≢true h)
 only_is (x ∷ []) g f e h =
@@ -263,7 +260,7 @@ only_is (x ∷ y ∷ xs) g f e h =
 
 -- ---- no extra stands on a kept anchor that is no unpitched peak
 module _ (pitch son : List Float) (peaks kept : List ℕ) (f : ℕ) (m : member peaks f ≡ false) (k : member kept f ≡ true) where
-  off_run : (r : Span) (g x e : ℕ) → held_by kept r ≡ One g → Inside r g x e → x ≡ f → ⊥
+  off_run : (r : Span) (g x e : ℕ) → held_by kept r ≡ Some g → Inside r g x e → x ≡ f → ⊥
   unfolding held_by
   off_run r g x e h i q =
       let held : holds r f ≡ true = le-leb (distance r f) 2 (omega (arith, i.after, i.before, q)) in
@@ -277,7 +274,7 @@ module _ (pitch son : List Float) (peaks kept : List ℕ) (f : ℕ) (m : member 
       not_holds (member (xs ++ ys) f) (λ e.
       ⊎_elim
       (λ i. true≢false (sym (and_cases (member peaks f) (member kept f) (sym (member_filter (member peaks) kept f) ∙ i)).0 ∙ m))
-      (λ i. each_member (λ x. x ≡ f → ⊥) ys f (seconds_each son kept (λ x. x ≡ f → ⊥) frame_of (λ r. Unit) (λ r u x e g. off_run r g x e) (long_runs pitch) (each_all (λ r. Unit) (λ r. tt) (long_runs pitch))) i refl)
+      (λ i. each_member (λ x. x ≡ f → ⊥) ys f (seconds_each son kept (λ x. x ≡ f → ⊥) frame_of (λ r. Unit) (λ r u x g. off_run r g x.frame x.edge) (long_runs pitch) (each_all (λ r. Unit) (λ r. tt) (long_runs pitch))) i refl)
       (or_cases (member xs f) (member ys f) (sym (member_append xs ys f) ∙ e)))
 
 -- ---- the extras of a take

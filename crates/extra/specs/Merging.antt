@@ -1,10 +1,14 @@
 -- The nuclei and the unpitched peaks of a take, merged. Definitions only.
-use Rattle.std.specs.Prelude.{ℕ, ◌-◌, Bool, ◌&&◌, ◌||◌, cond, List, ◌++◌, ltb, length, Float}
+use Rattle.std.specs.Prelude.{ℕ, ◌-◌, Bool, false, ◌&&◌, ◌||◌, cond, List, ◌++◌, get_or, ltb, length, Float}
 use Rattle.lists.specs.Marks.{member, in_order}
 use Rattle.smooth.specs.Extrema.{shallow}
 use Rattle.region.specs.declared.Settings.{Settings}
 use Rattle.nuclei.specs.Merging.{merged}
 use Rattle.nuclei.specs.Nuclei.{louder}
+
+-- the mark of a frame; past the marks there is none
+abbrev pub mark_at : List Bool → ℕ → Bool
+mark_at m x = get_or m x false
 
 -- ---- anchors, of which `peak` tells the unpitched peaks; the others are nuclei
 -- two anchors are one syllable: closer than the gap, or with no valley between them; two nuclei never are

@@ -1,5 +1,5 @@
 -- Where a voiced run splits into two syllables. Definitions only.
-use Rattle.std.specs.Prelude.{ℕ, ◌+◌, ◌-◌, max, Bool, false, ◌&&◌, cond, leb, Float}
+use Rattle.std.specs.Prelude.{ℕ, ◌+◌, ◌-◌, max, Bool, false, ◌&&◌, cond, leb, Float, Option, None, Some}
 use mathlib.Core.List.{List, foldl}
 use Rattle.std.proofs.Math.Seq.{slice}
 use Rattle.std.specs.Float.{binary32}
@@ -7,9 +7,7 @@ use Rattle.std.specs.Float.Ieee.{round, sub, le}
 use Rattle.floats.specs.Plain.{magnitude}
 use Rattle.lists.specs.Results.{keep}
 use Rattle.smooth.specs.Level.{mean_of}
-use Rattle.runs.specs.Runs.{Span}
-use Rattle.extra.specs.declared.split.Cut.{Cut}
-use Rattle.extra.specs.declared.split.Cut.TheVariants.{Before, Uncut}
+use Rattle.runs.specs.declared.voiced.Span.{Span}
 
 -- 0.2, the f32 nearest to one fifth
 abbrev pub fifth : Float
@@ -28,10 +26,10 @@ unfoldable pub may_split : List Float → Span → ℕ → ℕ → Bool
 may_split son r nucleus k = leb 6 (k - r.first) && (leb 6 (r.last + 1 - k) && (leb 3 (abs_diff k nucleus) && le fifth (change son k)))
 
 -- of two frames the one that weighs more, the later on a tie
-abbrev pub heavier : (ℕ → Float) → Cut → ℕ → Cut
-heavier weight Uncut k = Before k
-heavier weight (Before j) k = cond (le (weight j) (weight k)) (Before k) (Before j)
+abbrev pub heavier : (ℕ → Float) → Option ℕ → ℕ → Option ℕ
+heavier weight None k = Some k
+heavier weight (Some j) k = cond (le (weight j) (weight k)) (Some k) (Some j)
 
 -- where a run that holds one nucleus splits: before the frame of the largest change, the later on a tie
-unfoldable pub split_of : List Float → Span → ℕ → Cut
-split_of son r nucleus = foldl (heavier (change son)) Uncut (keep (may_split son r nucleus) r.first (r.last + 1 - r.first))
+unfoldable pub split_of : List Float → Span → ℕ → Option ℕ
+split_of son r nucleus = foldl (heavier (change son)) None (keep (may_split son r nucleus) r.first (r.last + 1 - r.first))

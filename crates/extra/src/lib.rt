@@ -1,5 +1,7 @@
 // Extras: syllables that the nuclei miss, and the edges that go with them. A vowel can be loud and have no pitch that the
 // tracker accepts, and two syllables may share a voiced run in which neither level nor pitch parts them.
+// Lent lists and a region as two numbers: as in `nuclei`.
+// That a track has at most 2,048 frames is a `requires` and no type: a type round the slice would be opened at each use.
 #![tactic(auto)]
 
 pub mod merging;
@@ -7,20 +9,23 @@ pub mod seconds;
 pub mod split;
 pub mod unpitched;
 
-ghost use Rattle.std.specs.Prelude.{◌≡◌, map, ◌+◌, ◌≤◌, ◌<◌, length};
-ghost use Rattle.lists.specs.Results.{Listed, Front, filter};
+ghost use Rattle.std.specs.Prelude.{◌≡◌, map, ◌++◌, ◌≤◌, length};
+ghost use Rattle.lists.specs.Results.{filter};
 ghost use Rattle.runs.specs.Runs.{RoomOfTwo};
 ghost use Rattle.lists.specs.Sorted.{StrictlyRises};
 ghost use Rattle.lists.specs.Marks.{in_order};
-ghost use Rattle.region.specs.Speech.{marked};
 ghost use Rattle.nuclei.specs.Nuclei.{NucleiListed, nucleus_at};
-ghost use Rattle.extra.specs.Extra.{edges_between, SameLength, ExtrasListed, extras_from, edges_from, extra_frames, extra_edges, extras_of, edges_of};
+ghost use Rattle.extra.specs.Merging.{mark_at};
+ghost use Rattle.extra.specs.Seconds.{frame_of, edge_of};
+ghost use Rattle.extra.specs.Extra.{edges_between, SameLength, ExtrasListed, extra_frames, extra_edges, extras_of, edges_of};
 
+use arrayvec::ArrayVec;
 use lists::marks::{in_order, marks};
-use merging::{either, merged};
+use merging::merged;
+use nuclei::peaks::RegionLevel;
 use nuclei::write_nuclei;
-use region::{Bounds, Floor, Settings, bounds_over, floor_db};
-use seconds::second_syllables;
+use region::{Settings, bounds_over, floor_db};
+use seconds::{Second, second_syllables};
 use smooth::extrema::argmin_middle;
 use smooth::level::smoothed_db;
 use unpitched::unpitched_peaks;
@@ -32,43 +37,46 @@ pub struct Counts {
     pub edges: usize,
 }
 
-// Writes those of the kept anchors that have a mark, and returns how many they are.
-fn those_marked(peaks: &[u8; 2048], kept: &[u32], out: &mut [u32]) -> usize
-    requires { StrictlyRises 0 2048 kept.now × (length kept.now ≤ length out.old) }
-    ensures { Listed (filter (marked peaks.now) kept.now) out.old out.new result }
+// The frames of the extras, in no order: those of the kept anchors that are peaks, and those of the second syllables.
+fn all_frames(is_peak: &[bool; 2048], kept: &[u32], seconds: &[Second]) -> ArrayVec<u32, 2560>
+    requires { StrictlyRises 0 2048 kept.now × (length seconds.now ≤ 512) }
+    ensures { result.items ≡ filter (mark_at is_peak.now) kept.now ++ map frame_of seconds.now }
 {
-    let mut n: usize = 0;
-    let mut i: usize = 0;
-    while i < kept.len() {
-        let x = kept[i];
-        if peaks[x as usize] == 1 {
-            out[n] = x;
-            n += 1;
+    let mut frames = ArrayVec::new();
+    for x in kept {
+        if is_peak[*x as usize] {
+            frames.push(*x);
         }
-        i += 1;
     }
-    n
+    for second in seconds {
+        frames.push(second.frame);
+    }
+    frames
 }
 
-// Writes the edges between neighbouring anchors of which one at least has a mark, and returns how many they are.
-fn edges_between(s: &[f32], peaks: &[u8; 2048], kept: &[u32], out: &mut [u32]) -> usize
-    requires { (length s.now ≤ 2048) × StrictlyRises 0 (length s.now) kept.now
-        × (length kept.now ≤ length out.old) }
-    ensures { Listed (edges_between s.now (marked peaks.now) kept.now) out.old
-        out.new result }
+// The edges of the extras, in no order and with repeats: those between neighbouring anchors of which one at least is a
+// peak, and those of the second syllables.
+fn all_edges(
+    s: &[f32],
+    is_peak: &[bool; 2048],
+    kept: &[u32],
+    seconds: &[Second],
+) -> ArrayVec<u32, 2560>
+    requires { (length s.now ≤ 2048) × StrictlyRises 0 (length s.now) kept.now × (length seconds.now ≤ 512) }
+    ensures { result.items ≡ edges_between s.now (mark_at is_peak.now) kept.now ++ map edge_of seconds.now }
 {
-    let mut n: usize = 0;
-    let mut i: usize = 0;
-    while i + 1 < kept.len() {
-        let a = kept[i] as usize;
-        let b = kept[i + 1] as usize;
-        if either(peaks[a], peaks[b]) {
-            out[n] = argmin_middle(s, a, b) as u32;
-            n += 1;
+    let mut edges = ArrayVec::new();
+    for i in 1..kept.len() {
+        let a = kept[i - 1] as usize;
+        let b = kept[i] as usize;
+        if is_peak[a] || is_peak[b] {
+            edges.push(argmin_middle(s, a, b) as u32);
         }
-        i += 1;
     }
-    n
+    for second in seconds {
+        edges.push(second.edge);
+    }
+    edges
 }
 
 // Writes the frames of a list, in order and each once, with their levels over the floor, and returns how many they are.
@@ -89,79 +97,11 @@ fn write_extras(
     write_nuclei(s, floor, &order[..n], frames, strengths)
 }
 
-// Writes the frames of the extras and their edges, in no order and with repeats, to the front of the two lists, given the
-// unpitched peaks and the kept anchors. Returns how many they are.
-fn gather(
-    s: &[f32],
-    pitch: &[f32],
-    son: &[f32],
-    peaks: &[u32],
-    kept: &[u32],
-    frames: &mut [u32],
-    edges: &mut [u32],
-) -> Counts
-    requires same_length { SameLength s.now pitch.now son.now }
-    requires strictly_rises { StrictlyRises 0 (length s.now) peaks.now × StrictlyRises 0 (length s.now) kept.now }
-    requires in_bounds { (4096 ≤ length frames.old) × (4096 ≤ length edges.old) }
-    ensures { Front (extras_from pitch.now son.now peaks.now kept.now)
-        frames.new result.extras
-        × Front (edges_from s.now pitch.now son.now peaks.now kept.now)
-        edges.new result.edges }
-{
-    let m = marks(peaks);
-    let l = those_marked(&m, kept, frames);
-    let e = edges_between(s, &m, kept, edges);
-    let j = second_syllables(son, pitch, kept, &mut frames[l..], &mut edges[e..]);
-    Counts {
-        extras: l + j,
-        edges: e + j,
-    }
-}
-
-// Writes the extras and their edges, in order, given the unpitched peaks and the kept anchors.
-fn extras_from(
-    s: &[f32],
-    pitch: &[f32],
-    son: &[f32],
-    floor: f32,
-    peaks: &[u32],
-    kept: &[u32],
-    frames: &mut [u32],
-    strengths: &mut [f32],
-    edges: &mut [u32],
-) -> Counts
-    requires same_length { SameLength s.now pitch.now son.now }
-    requires strictly_rises { StrictlyRises 0 (length s.now) peaks.now × StrictlyRises 0 (length s.now) kept.now }
-    requires s_in_bounds { (length s.now ≤ length frames.old) × (length s.now ≤ length strengths.old)
-        × (length s.now ≤ length edges.old) }
-    ensures { ExtrasListed
-        (map (nucleus_at s.now floor)
-        (in_order (extras_from pitch.now son.now peaks.now kept.now)
-        (length s.now)))
-        (in_order (edges_from s.now pitch.now son.now peaks.now kept.now)
-        (length s.now))
-        frames.old frames.new strengths.old strengths.new
-        edges.old edges.new result }
-{
-    let mut found = [0u32; 4096];
-    let mut between = [0u32; 4096];
-    let c = gather(s, pitch, son, peaks, kept, &mut found, &mut between);
-    let f = c.extras;
-    let e = c.edges;
-    let n = write_extras(s, floor, &found[..f], frames, strengths);
-    let m = in_order(&between[..e], s.len(), edges);
-    Counts {
-        extras: n,
-        edges: m,
-    }
-}
-
-// Writes the extras, their strengths and their edges, given the level s and the floor.
+// Writes the extras, their strengths and their edges, given the level and the floor.
 fn extras_over(
-    s: &[f32],
+    r: RegionLevel<'_>,
     pitch: &[f32],
     son: &[f32],
-    b: Bounds,
     floor: f32,
     nuclei: &[u32],
     p: Settings,
@@ -169,31 +109,26 @@ fn extras_over(
     strengths: &mut [f32],
     edges: &mut [u32],
 ) -> Counts
-    requires same_length { SameLength s.now pitch.now son.now × (b.end ≤ length s.now) }
-    requires s_in_bounds { (length s.now ≤ length frames.old) × (length s.now ≤ length strengths.old)
-        × (length s.now ≤ length edges.old) }
+    requires same_length { SameLength r.level.now pitch.now son.now }
+    requires s_in_bounds { (length r.level.now ≤ length frames.old) × (length r.level.now ≤ length strengths.old)
+        × (length r.level.now ≤ length edges.old) }
     ensures { ExtrasListed
-        (map (nucleus_at s.now floor)
-        (extra_frames s.now pitch.now son.now b p nuclei.now))
-        (extra_edges s.now pitch.now son.now b p nuclei.now)
+        (map (nucleus_at r.entry.level.now floor)
+        (extra_frames r.entry.level.now pitch.now son.now r.entry.bounds p nuclei.now))
+        (extra_edges r.entry.level.now pitch.now son.now r.entry.bounds p nuclei.now)
         frames.old frames.new strengths.old strengths.new
         edges.old edges.new result }
 {
-    let mut peaks = [0u32; 2048];
-    let u = unpitched_peaks(s, pitch, son, b, &mut peaks);
-    let mut kept = [0u32; 2048];
-    let k = merged(s, p, nuclei, &peaks[..u], &mut kept);
-    extras_from(
-        s,
-        pitch,
-        son,
-        floor,
-        &peaks[..u],
-        &kept[..k],
-        frames,
-        strengths,
-        edges,
-    )
+    let peaks = unpitched_peaks(r, pitch, son);
+    let kept = merged(r.level, p, nuclei, &peaks);
+    let is_peak = marks(&peaks);
+    let seconds = second_syllables(son, pitch, &kept);
+    let found = all_frames(&is_peak, &kept, &seconds);
+    let between = all_edges(r.level, &is_peak, &kept, &seconds);
+    Counts {
+        extras: write_extras(r.level, floor, &found, frames, strengths),
+        edges: in_order(&between, r.level.len(), edges),
+    }
 }
 
 // Writes the extras of a take in the region start..end beside its nuclei, in order, to the front of frames and strengths,
@@ -226,7 +161,7 @@ pub fn extra_candidates(
             edges: 0,
         };
     }
-    let Floor::At(floor) = floor_db(db) else {
+    let Some(floor) = floor_db(db) else {
         return Counts {
             extras: 0,
             edges: 0,
@@ -234,16 +169,11 @@ pub fn extra_candidates(
     };
     let mut s = [0.0f32; 2048];
     smoothed_db(db, &mut s);
+    let r = RegionLevel {
+        level: &s[..db.len()],
+        bounds: bounds_over(floor, p, start, end),
+    };
     extras_over(
-        &s[..db.len()],
-        pitch,
-        sonority,
-        bounds_over(floor, p, start, end),
-        floor,
-        nuclei,
-        p,
-        frames,
-        strengths,
-        edges,
+        r, pitch, sonority, floor, nuclei, p, frames, strengths, edges,
     )
 }

@@ -1,31 +1,21 @@
 // Nuclei and unpitched peaks that are one syllable, merged.
-ghost use Rattle.std.specs.Prelude.{◌≡◌, ◌||◌, ◌≤◌, ◌<◌, eqb, length};
-ghost use Rattle.lists.specs.Results.{Front};
+ghost use Rattle.std.specs.Prelude.{◌≡◌, ◌≤◌, ◌<◌, length};
 ghost use Rattle.lists.specs.Sorted.{StrictlyRises};
-ghost use Rattle.lists.specs.Stack.{stack, Kept, Falls};
-ghost use Rattle.region.specs.Speech.{marked};
-ghost use Rattle.nuclei.specs.Merging.{push_by};
-ghost use Rattle.extra.specs.Merging.{one_syllable, survivor, anchors};
+ghost use Rattle.extra.specs.Merging.{mark_at, one_syllable, survivor, anchors};
 
+use arrayvec::ArrayVec;
 use lists::marks::marks;
-use nuclei::merging::louder;
+use nuclei::merging::{louder, push_merging};
 use region::Settings;
 use smooth::extrema::shallow_valley;
 
-// Whether one of two marks is set.
-pub fn either(a: u8, b: u8) -> bool
-    ensures { result ≡ (eqb a 1 || eqb b 1) }
-{
-    a == 1 || b == 1
-}
-
 // Whether two anchors, the earlier first, are one syllable: closer than the gap, or with no valley between them. Two
 // nuclei are not, since both were kept as nuclei. The unpitched peaks are marked.
-fn one_syllable(s: &[f32], p: Settings, peaks: &[u8; 2048], prev: u32, x: u32) -> bool
+fn one_syllable(s: &[f32], p: Settings, is_peak: &[bool; 2048], prev: u32, x: u32) -> bool
     requires { (length s.now ≤ 2048) × (prev < x) × (x < length s.now) }
-    ensures { result ≡ one_syllable s.now p (marked peaks.now) prev x }
+    ensures { result ≡ one_syllable s.now p (mark_at is_peak.now) prev x }
 {
-    if either(peaks[prev as usize], peaks[x as usize]) {
+    if is_peak[prev as usize] || is_peak[x as usize] {
         return x - prev < p.gap || shallow_valley(s, prev as usize, x as usize, p.dip);
     }
     false
@@ -33,62 +23,37 @@ fn one_syllable(s: &[f32], p: Settings, peaks: &[u8; 2048], prev: u32, x: u32) -
 
 // Which of two anchors, the earlier first, stays when they are one syllable: the nucleus; of two peaks without pitch the
 // louder one, and where they are alike the first.
-fn survivor(s: &[f32], peaks: &[u8; 2048], prev: u32, x: u32) -> u32
+fn survivor(s: &[f32], is_peak: &[bool; 2048], prev: u32, x: u32) -> u32
     requires { (length s.now ≤ 2048) × (prev < x) × (x < length s.now) }
-    ensures { result ≡ survivor s.now (marked peaks.now) prev x }
+    ensures { result ≡ survivor s.now (mark_at is_peak.now) prev x }
 {
-    if peaks[prev as usize] == 1 {
-        if peaks[x as usize] == 1 {
-            return louder(s, prev, x);
-        }
-        return x;
+    if !is_peak[prev as usize] {
+        return prev;
     }
-    prev
-}
-
-// Puts an anchor that is later than the k kept ones onto them, and returns how many are kept then. Where it is one
-// syllable with the last of them, the one that stays is put onto those before in its turn.
-fn push_anchor(
-    s: &[f32],
-    p: Settings,
-    peaks: &[u8; 2048],
-    kept: &mut [u32],
-    k: usize,
-    x: u32,
-) -> usize
-    requires { (length s.now ≤ 2048) × (k < length kept.old) × (x < length s.now) × Falls x (stack kept.old k) }
-    ensures { Kept (push_by (one_syllable s.now p (marked peaks.now))
-        (survivor s.now (marked peaks.now)) (stack kept.old k) x) kept.new result }
-{
-    if k == 0 {
-        kept[0] = x;
-        return 1;
-    }
-    let prev = kept[k - 1];
-    if one_syllable(s, p, peaks, prev, x) {
-        let left = survivor(s, peaks, prev, x);
-        push_anchor(s, p, peaks, kept, k - 1, left)
+    if is_peak[x as usize] {
+        louder(s, prev, x)
     } else {
-        kept[k] = x;
-        k + 1
+        x
     }
 }
 
-// Writes what is left of the nuclei and the unpitched peaks, in order, when those that are one syllable are merged, to the
-// front of kept, and returns how many they are.
-pub fn merged(s: &[f32], p: Settings, nuclei: &[u32], peaks: &[u32], kept: &mut [u32]) -> usize
-    requires { (length s.now ≤ 2048) × (length s.now ≤ length kept.old) × StrictlyRises 0 (length s.now) peaks.now }
-    ensures { Front (anchors s.now p nuclei.now peaks.now) kept.new result }
+// What is left of the nuclei and the unpitched peaks, in order, when those that are one syllable are merged.
+pub fn merged(s: &[f32], p: Settings, nuclei: &[u32], peaks: &[u32]) -> ArrayVec<u32, 2048>
+    requires { (length s.now ≤ 2048) × StrictlyRises 0 (length s.now) peaks.now }
+    ensures { result.items ≡ anchors s.now p nuclei.now peaks.now }
 {
-    let given = marks(nuclei);
-    let found = marks(peaks);
-    let mut k: usize = 0;
-    let mut i: usize = 0;
-    while i < s.len() {
-        if either(given[i], found[i]) {
-            k = push_anchor(s, p, &found, kept, k, i as u32);
+    let is_nucleus = marks(nuclei);
+    let is_peak = marks(peaks);
+    let mut kept = ArrayVec::new();
+    for i in 0..s.len() {
+        if is_nucleus[i] || is_peak[i] {
+            push_merging(
+                &|prev, x| one_syllable(s, p, &is_peak, prev, x),
+                &|prev, x| survivor(s, &is_peak, prev, x),
+                &mut kept,
+                i as u32,
+            );
         }
-        i += 1;
     }
-    k
+    kept
 }

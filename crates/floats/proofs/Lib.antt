@@ -1,4 +1,3 @@
-pub mod Closest
 pub mod Pattern
 pub mod NotANumber
 pub mod Narrow

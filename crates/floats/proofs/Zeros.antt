@@ -4,12 +4,14 @@ use mathlib.Core.Bool.{Bool, true, false, true≢false, false≢true, ◌&&◌, 
 use Prim.Native.Nat.{ℕ, zero, suc, ◌+◌, ◌*◌, ◌<◌}
 use native.Mathlib.Nat.{zero-lt-suc, mul-pos, zero-mul}
 use native.Mathlib.Omega.{arith}
-use lib.IntN.{ℤ, pos}
-use lib.Dec.{T, eqb, ltb}
+use lib.IntN.{ℤ, pos, negsuc}
+use lib.Dec.{T, eqb, ltb, eqb→eq}
 use borrow.Author.Tests.{lt-ltb, le-ltb, ltb-true, ne_eqb}
-use lib.Ieee.{Float, nan, inf, fin, Format, binary32, binary64, top, eq, lt, neg, up, down, of_bits, of_int}
+use lib.Ieee.{Float, nan, inf, fin, Format, binary32, binary64, top, eq, lt, up, down, of_bits, of_int, fits}
 use lib.Ieee.Fits.{up_pos, down_pos}
 use lib.Ieee.Positive.{positive}
+use Rattle.std.specs.Float.{float_with_sign}
+use Rattle.std.proofs.Common.{pow-suc}
 use Rattle.floats.specs.Plain.{zero_f, magnitude, plain_zero}
 
 -- ---- where the pattern is 0 but for the sign, and where the number is
@@ -95,29 +97,15 @@ positive_not_zero (fin true m e) p = absurd p
 positive_not_zero (fin false zero e) p = absurd p
 positive_not_zero (fin false (suc m) e) p = not_equal false m e
 
--- ---- the size
-pub zero_size : (x : Float) → eq x zero_f ≡ true → zero_f ≡ magnitude x
-zero_size nan h = absurd (false≢true (unfold eq in h))
-zero_size (inf s) h = absurd (false≢true (unfold eq in h))
-zero_size (fin s zero e) h = refl
-zero_size (fin s (suc m) e) h = absurd (true≢false (sym h ∙ not_equal s m e))
-
-pub below_size : (x : Float) → eq x zero_f ≡ false → lt x zero_f ≡ true → neg x ≡ magnitude x
-unfolding neg
-below_size nan h l = refl
-below_size (inf true) h l = refl
-below_size (inf false) h l = absurd (false≢true (unfold lt in l))
-below_size (fin s zero e) h l = absurd (true≢false (sym (zero_equal s e) ∙ h))
-below_size (fin true (suc m) e) h l = refl
-below_size (fin false (suc m) e) h l = absurd (true≢false (sym l ∙ not_negative (suc m) e))
-
-pub above_size : (x : Float) → eq x zero_f ≡ false → lt x zero_f ≡ false → x ≡ magnitude x
-above_size nan h l = refl
-above_size (inf true) h l = absurd (true≢false (unfold lt in l))
-above_size (inf false) h l = refl
-above_size (fin s zero e) h l = absurd (true≢false (sym (zero_equal s e) ∙ h))
-above_size (fin true (suc m) e) h l = absurd (true≢false (sym (negative m e) ∙ l))
-above_size (fin false (suc m) e) h l = refl
+-- ---- the size: of an f32 that is zero, the one zero without a sign
+pub unsigned : (x : Float) → T (fits binary32 x) → float_with_sign false x ≡ magnitude x
+unfolding float_with_sign fits
+unsigned nan h = refl
+unsigned (inf s) h = refl
+unsigned (fin s (suc m) e) h = refl
+unsigned (fin s zero (pos zero)) h = refl
+unsigned (fin s zero (pos (suc k))) h = let e = eqb→eq (up (pos (suc k)) * down (pos (suc k))) 1 h in absurd (omega (arith, pow-suc 2 k, e))
+unsigned (fin s zero (negsuc k)) h = let e = eqb→eq (up (negsuc k) * down (negsuc k)) 1 h in absurd (omega (arith, pow-suc 2 k, e))
 
 -- ---- a plain zero
 pub zero_plain : (x : Float) → eq x zero_f ≡ true → zero_f ≡ plain_zero x

@@ -7,20 +7,14 @@ ghost use Rattle.floats.specs.Plain.{magnitude, or_zero, plain_zero};
 pub fn is_finite(d: f32) -> bool
     ensures { result ≡ finite d }
 {
-    if d < f32::from_bits(0x7f80_0000) {
-        return d > f32::from_bits(0xff80_0000);
-    }
-    false
+    d.is_finite()
 }
 
 // x without its sign: of either zero +0.0, of a NaN a NaN.
 pub fn magnitude(x: f32) -> f32
     ensures { result ≡ magnitude x }
 {
-    if x == 0.0 {
-        return 0.0;
-    }
-    if x < 0.0 { -x } else { x }
+    x.abs()
 }
 
 // x where it is finite, and +0.0 in the place of a NaN or an infinity.

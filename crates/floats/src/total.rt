@@ -3,8 +3,8 @@
 ghost use Rattle.std.specs.Prelude.{◌≡◌};
 ghost use Rattle.floats.specs.Total.{placed, total_key, finite_key, value_of};
 
-use super::bits::{from_bits, to_bits};
 use super::plain::is_finite;
+use std::num::{f32_from_bits_with_nan, f32_to_bits_with_nan};
 
 // Where the value of the pattern b stands.
 fn place(b: u32) -> u32
@@ -21,7 +21,7 @@ fn place(b: u32) -> u32
 pub fn total_key(x: f32) -> u32
     ensures { result ≡ total_key x }
 {
-    place(to_bits(x))
+    place(f32_to_bits_with_nan(x))
 }
 
 // Where x stands if it is finite, else a place past those of all finite values.
@@ -39,8 +39,10 @@ pub fn finite_key(x: f32) -> u32
 pub fn from_total_key(k: u32) -> f32
     ensures { result ≡ value_of k }
 {
-    if 0x8000_0000 <= k {
-        return from_bits(k - 0x8000_0000);
-    }
-    from_bits(0xffff_ffff - k)
+    let b = if 0x8000_0000 <= k {
+        k - 0x8000_0000
+    } else {
+        0xffff_ffff - k
+    };
+    f32_from_bits_with_nan(b)
 }

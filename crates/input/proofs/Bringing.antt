@@ -8,7 +8,6 @@ use lib.Seq.{take_all, take-append-le}
 use Rattle.std.specs.Prelude.{Result, Ok, Err, Option, Some, None, IfSome}
 use Rattle.std.specs.Io.KnownBytes.{Consumes, ReadConsumes, IsAtEnd}
 use Rattle.input.specs.Held.{Holds, Adds, Added, pieces_joined}
-use Rattle.input.specs.declared.Got.TheVariants.{Ended, Counted}
 use Rattle.input.specs.Reading.{Brought}
 use Rattle.input.proofs.Adding.{pieces_held}
 
@@ -50,21 +49,16 @@ module _ {pieces : List (List ℕ)} {file left : List ℕ} {total : ℕ} (a : Ad
       let e : take total xs ≡ pieces_joined pieces = ap (take total) h ∙ take-append-le total (pieces_joined pieces) ys (omega (arith, p.count)) ∙ take_all total (pieces_joined pieces) (omega (arith, p.count)) in
       (rw e p, l)
 
--- where reading fails nothing is said of it
-pub failed_known : (o : Option (List ℕ)) → IfSome o (λ came. Unit)
-failed_known None = tt
-failed_known (Some xs) = tt
-
 -- ---- one read
 module _ {E : Type 0} (chunk file left : List ℕ) (total : ℕ) (m n : Option (List ℕ)) where
-  pub same_left : (got : Result ℕ E) → Brought got chunk file total left Ended → ReadConsumes m n got chunk → 0 < length chunk → (left ≡ file) × Consumes m n [] × IsAtEnd n
+  pub same_left : (got : Result ℕ E) → Brought got chunk file total left (Ok None) → ReadConsumes m n got chunk → 0 < length chunk → (left ≡ file) × Consumes m n [] × IsAtEnd n
   same_left (Ok zero) b r l = (b.1, r.0, r.1 refl l)
-  same_left (Ok (suc k)) b r l = let x : ◌≡◌ {A = ℕ} 0 1 = cc b.0 in absurd (omega arith)
-  same_left (Err e) b r l = let x : ◌≡◌ {A = ℕ} 0 1 = cc b in absurd (omega arith)
+  same_left (Ok (suc k)) b r l = cc b.0
+  same_left (Err e) b r l = cc b
 
-  pub more_left : (got : Result ℕ E) {more : ℕ} → Brought got chunk file total left (Counted more) → ReadConsumes m n got chunk → (total < more) × ((piece : List ℕ) × Adds piece file total left more × Consumes m n piece)
-  more_left (Ok zero) b r = let x : ◌≡◌ {A = ℕ} 0 1 = cc b.0 in absurd (omega arith)
+  pub more_left : (got : Result ℕ E) {more : ℕ} → Brought got chunk file total left (Ok (Some more)) → ReadConsumes m n got chunk → (total < more) × ((piece : List ℕ) × Adds piece file total left more × Consumes m n piece)
+  more_left (Ok zero) b r = cc b.0
   more_left (Ok (suc k)) {more} b r =
       let s : more ≡ total + suc k = cc b.0 in
       (omega arith, (take (suc k) chunk, rw s b.1, r.0))
-  more_left (Err e) b r = let x : ◌≡◌ {A = ℕ} 0 1 = cc b in absurd (omega arith)
+  more_left (Err e) b r = cc b

@@ -16,18 +16,9 @@ ghost use Rattle.input.specs.Reading.{Brought, Stopped, StoppedIn};
 use std::io;
 use std::io::Read;
 
-// What a read brought: it failed, the input has ended, or there are now so many bytes in all.
-#[derive(Clone, Copy)]
-pub enum Got {
-    Failed,
-    Ended,
-    Counted(usize),
-}
-
-// How reading stopped: it failed, at the end of so many bytes, or with more bytes than were asked for.
+// Where reading stopped: at the end of so many bytes, or with more bytes than were asked for.
 #[derive(Clone, Copy)]
 pub enum Input {
-    Failed,
     Whole(usize),
     Longer(usize),
 }
@@ -36,11 +27,7 @@ pub enum Input {
 fn room_for(size: usize, at: usize, k: usize) -> usize
     ensures { result ≡ min k (size - at) }
 {
-    if size <= at {
-        return 0;
-    }
-    let room = size - at;
-    if k < room { k } else { room }
+    k.min(size.saturating_sub(at))
 }
 
 // Keeps the bytes that came at `at` of a file, as far as there is room.
@@ -49,10 +36,8 @@ fn keep(bytes: &[u8], file: &mut [u8], at: usize)
         (min (length bytes.now) (length file.old - at)) }
 {
     let n = room_for(file.len(), at, bytes.len());
-    let mut i: usize = 0;
-    while i < n {
-        file[at + i] = bytes[i];
-        i += 1;
+    if n > 0 {
+        file[at..at + n].copy_from_slice(&bytes[..n]);
     }
 }
 
@@ -65,22 +50,31 @@ fn add_piece(piece: &[u8], file: &mut [u8], total: usize) -> usize
     total + piece.len()
 }
 
-// Adds what a read brought: the reader answered `got`, and the bytes are in the chunk.
-fn take_in(got: io::Result<usize>, chunk: &[u8], file: &mut [u8], total: usize) -> Got
+// Adds what a read brought: the reader answered `got`, and the bytes are in the chunk. Answers how many bytes there are now in
+// all, or `None` where the input has ended.
+fn take_in(
+    got: io::Result<usize>,
+    chunk: &[u8],
+    file: &mut [u8],
+    total: usize,
+) -> io::Result<Option<usize>>
     requires { (total + length chunk.now < 18446744073709551616) × ReadsAtMost got chunk.now }
     ensures { Brought got chunk.now file.old total file.new result }
 {
-    let Ok(n) = got else {
-        return Got::Failed;
-    };
+    let n = got?;
     if n == 0 {
-        return Got::Ended;
+        return Ok(None);
     }
-    Got::Counted(add_piece(&chunk[..n], file, total))
+    Ok(Some(add_piece(&chunk[..n], file, total)))
 }
 
 // Reads once, into the chunk, and adds what came.
-fn read_some<R: Read>(input: &mut R, chunk: &mut [u8], file: &mut [u8], total: usize) -> Got
+fn read_some<R: Read>(
+    input: &mut R,
+    chunk: &mut [u8],
+    file: &mut [u8],
+    total: usize,
+) -> io::Result<Option<usize>>
     requires { total + length chunk.old < 18446744073709551616 }
     ensures { (got : Result ℕ Error) × Brought got chunk.new file.old total file.new result
         × ReadConsumes (R.remaining input.old) (R.remaining input.new) got chunk.new }
@@ -90,25 +84,19 @@ fn read_some<R: Read>(input: &mut R, chunk: &mut [u8], file: &mut [u8], total: u
 }
 
 // Reads the input to its end, or until there are more than `most` bytes.
-pub fn read_all<R: Read>(input: &mut R, file: &mut [u8], most: usize) -> Input
+pub fn read_all<R: Read>(input: &mut R, file: &mut [u8], most: usize) -> io::Result<Input>
     requires { most + 65536 < 18446744073709551616 }
     ensures pieces { Stopped most file.old file.new result }
     ensures known { IfSome (R.remaining input.old) (λ came. StoppedIn most came file.new result) }
 {
     let mut chunk = [0u8; 65536];
     let mut total: usize = 0;
+    // A `while`: the count goes on by what each read brings.
     while total <= most {
-        match read_some(input, &mut chunk, file, total) {
-            Got::Failed => {
-                return Input::Failed;
-            }
-            Got::Ended => {
-                return Input::Whole(total);
-            }
-            Got::Counted(more) => {
-                total = more;
-            }
-        }
+        let Some(more) = read_some(input, &mut chunk, file, total)? else {
+            return Ok(Input::Whole(total));
+        };
+        total = more;
     }
-    Input::Longer(total)
+    Ok(Input::Longer(total))
 }

@@ -1,5 +1,6 @@
 // The entries under their C names, over nucleus records: each copies between a lent list of records and plain lists of its
 // own, and leaves the rest to the entry over plain lists.
+// Plain lists under the records: a form that was asked for by name (docs/DECISIONS.md).
 #![tactic(auto)]
 
 ghost use Rattle.std.specs.Prelude.{◌≡◌, ◌≤◌, length};
@@ -9,9 +10,9 @@ ghost use Rattle.chain.specs.Chain.{take_of};
 ghost use Rattle.kiddwyr.specs.Records.{frames_in, lists_of, NucleiCall, ExtrasCall, ChainCall};
 ghost use Rattle.kiddwyr.specs.Copied.{Filled, FramesTaken};
 
+use admit::numbers::number;
 use chain::Marks;
 use entries::stages::{Answer, Counted, Spanned};
-use lists::sizes::smaller;
 use region::Settings;
 use within::{boundaries_given, boundaries_with_given, chain_within, extras_within, nuclei_within};
 
@@ -28,13 +29,11 @@ fn fill_nuclei(frames: &[u32], strengths: &[f32], count: usize, out: &mut [Nucle
     requires { (count ≤ length frames.now) × (count ≤ length strengths.now) × (count ≤ length out.old) }
     ensures { Filled frames.now strengths.now count out.old out.new }
 {
-    let mut i = 0;
-    while i < count {
+    for i in 0..count {
         out[i] = Nucleus {
             frame: frames[i],
             strength: strengths[i],
         };
-        i += 1;
     }
 }
 
@@ -42,11 +41,9 @@ fn fill_nuclei(frames: &[u32], strengths: &[f32], count: usize, out: &mut [Nucle
 fn take_frames(nuclei: &[Nucleus], frames: &mut [u32]) -> usize
     ensures { FramesTaken nuclei.now frames.old frames.new result }
 {
-    let count = smaller(nuclei.len(), frames.len());
-    let mut i = 0;
-    while i < count {
+    let count = nuclei.len().min(frames.len());
+    for i in 0..count {
         frames[i] = nuclei[i].frame;
-        i += 1;
     }
     count
 }
@@ -65,7 +62,7 @@ pub extern "C" fn kiddwyr_nuclei(
 {
     let mut frames = [0u32; 2048];
     let mut strengths = [0.0f32; 2048];
-    let answer = nuclei_within(
+    let answer = Answer::from(nuclei_within(
         db,
         pitch,
         start,
@@ -74,7 +71,7 @@ pub extern "C" fn kiddwyr_nuclei(
         &mut frames,
         &mut strengths,
         list.len(),
-    );
+    ));
     fill_nuclei(&frames, &strengths, answer.count, list);
     answer
 }
@@ -100,7 +97,7 @@ pub extern "C" fn kiddwyr_extras(
     let mut frames = [0u32; 2048];
     let mut strengths = [0.0f32; 2048];
     let count = take_frames(nuclei, &mut given);
-    let counted = extras_within(
+    let counted = Counted::from(extras_within(
         db,
         pitch,
         sonority,
@@ -113,7 +110,7 @@ pub extern "C" fn kiddwyr_extras(
         &mut frames,
         &mut strengths,
         list.len(),
-    );
+    ));
     fill_nuclei(&frames, &strengths, counted.extras, list);
     counted
 }
@@ -135,7 +132,7 @@ pub extern "C" fn kiddwyr_boundaries_with(
 {
     let mut given = [0u32; 2049];
     let count = take_frames(nuclei, &mut given);
-    boundaries_with_given(db, pitch, voiced, start, end, &given, count, p, out)
+    Answer::from(boundaries_with_given(db, pitch, voiced, start, end, &given, count, p, out))
 }
 
 // The boundaries of start..end under the defaults, around nuclei.
@@ -154,7 +151,7 @@ pub extern "C" fn kiddwyr_boundaries(
 {
     let mut given = [0u32; 2049];
     let count = take_frames(nuclei, &mut given);
-    boundaries_given(db, pitch, voiced, start, end, &given, count, out)
+    Answer::from(boundaries_given(db, pitch, voiced, start, end, &given, count, out))
 }
 
 // The whole chain. A call is refused by the lowest number that applies, and then changes nothing; else pitches are
@@ -184,7 +181,7 @@ pub extern "C" fn kiddwyr_chain(
     let mut strengths = [0.0f32; 2048];
     let mut xframes = [0u32; 2048];
     let mut xstrengths = [0.0f32; 2048];
-    let marks = chain_within(
+    let marks = Marks::from(chain_within(
         db,
         pitch,
         voiced,
@@ -200,7 +197,7 @@ pub extern "C" fn kiddwyr_chain(
         &mut xstrengths,
         nuclei.len(),
         extras.len(),
-    );
+    ));
     fill_nuclei(&frames, &strengths, marks.nuclei, nuclei);
     fill_nuclei(&xframes, &xstrengths, marks.extras, extras);
     marks
@@ -211,7 +208,7 @@ pub extern "C" fn kiddwyr_chain(
 pub extern "C" fn kiddwyr_speech_marks(db: &[f32], p: Settings, marks: &mut [u8]) -> Answer
     ensures { MarksCall db.now p marks.old marks.new result }
 {
-    entries::stages::speech_marks(db, p, marks)
+    Answer::from(entries::stages::speech_marks(db, p, marks))
 }
 
 // The region.
@@ -219,7 +216,7 @@ pub extern "C" fn kiddwyr_speech_marks(db: &[f32], p: Settings, marks: &mut [u8]
 pub extern "C" fn kiddwyr_region(db: &[f32], p: Settings) -> Spanned
     ensures { RegionCall db.now p result }
 {
-    entries::stages::region(db, p)
+    Spanned::from(entries::stages::region(db, p))
 }
 
 // The octave repair, in place.
@@ -227,7 +224,7 @@ pub extern "C" fn kiddwyr_region(db: &[f32], p: Settings) -> Spanned
 pub extern "C" fn kiddwyr_repair(pitch: &mut [f32]) -> u32
     ensures { RepairCall pitch.old pitch.new result }
 {
-    entries::stages::repair(pitch)
+    number(entries::stages::repair(pitch))
 }
 
 // The recovery, in place.
@@ -241,7 +238,7 @@ pub extern "C" fn kiddwyr_recover(
     ensures { RecoverCall samples.now speech.now vowel.now pitch.old
         pitch.new result }
 {
-    entries::stages::recover(pitch, samples, speech, vowel)
+    number(entries::stages::recover(pitch, samples, speech, vowel))
 }
 
 // The settings where a call sets none.

@@ -1,5 +1,5 @@
 -- The known takes and pitches of the specification, K1 to K8, and some more beside a limit, as rows of one table. Definitions only.
-use Rattle.std.specs.Prelude.{ℕ, zero, suc, ◌+◌, ◌≡◌, Bool, true, false, ◌&&◌, ℤ, pos, length, replicate, eqb, Float}
+use Rattle.std.specs.Prelude.{ℕ, zero, suc, ◌+◌, ◌≡◌, Bool, true, false, ◌&&◌, ℤ, pos, length, replicate, eqb, Float, Option, None, Some}
 use mathlib.Core.List.{List, [], ◌∷◌, ◌++◌, map, flat_map}
 use Rattle.std.specs.Float.{binary32, binary64}
 use Rattle.std.specs.Float.Ieee.{round, neg, of_int, to_bits}
@@ -8,8 +8,6 @@ use Rattle.region.specs.declared.Settings.{Settings}
 use Rattle.nsdf.specs.Nsdf.{nsdf, window}
 use Rattle.floats.specs.Ratio.{ratio}
 use Rattle.lists.specs.Results.{overlay}
-use Rattle.nsdf.specs.declared.period.Estimate.{Estimate}
-use Rattle.nsdf.specs.declared.period.Estimate.TheVariants.{Nothing, Hz}
 use Rattle.repair.specs.Repair.{repaired}
 use Rattle.recover.specs.Recovered.{recovered_from}
 use Rattle.nuclei.specs.Nuclei.{frames_of}
@@ -65,9 +63,9 @@ abbrev answer_of : List ℕ → Answer
 answer_of found = record { refusal = 0; count = length found }
 
 -- an estimate
-abbrev estimate : ℕ → Estimate
-estimate zero = Nothing
-estimate (suc n) = Hz (of_int binary64 (pos (suc n)))
+abbrev estimate : ℕ → Option Float
+estimate zero = None
+estimate (suc n) = Some (of_int binary64 (pos (suc n)))
 
 -- the definitions that the contracts cite give what the row says; of the recovery, the one that takes the estimates
 abbrev pub Right : Row → Type 0

@@ -5,13 +5,13 @@ use native.Mathlib.Nat.{add-zero, zero-add, suc-add}
 use native.Mathlib.Omega.{arith}
 use native.Mathlib.Numerals.{add-one}
 use mathlib.Core.Path.{◌≡◌, refl, sym, ap, ap₂, subst, ◌∙◌}
-use mathlib.Core.Bool.{Bool, true, false, cond}
+use mathlib.Core.Bool.{Bool, true, false}
 use mathlib.Core.List.{List, [], ◌∷◌, ◌++◌, append_assoc, append-nil, map}
 use lib.Dec.{leb}
 use borrow.Author.Tests.{leb-true, leb-false}
 use lib.ListN.{length, get_or, take, drop, set, length-append, length-drop, drop_of_length-le}
 use lib.Seq.{drop-cons, set_at, take-append_seam}
-use Rattle.lists.specs.Results.{overlay, Listed, Front, Pushed, keep, cons_if, filter, more_if}
+use Rattle.lists.specs.Results.{overlay, Listed, keep, cons_if, filter}
 
 pub record Filling {ℓ} {A : Type ℓ} (whole rest out₀ out : List A) (n : ℕ) : Type ℓ where
   pub done : List A
@@ -54,26 +54,6 @@ module _ {ℓ} {A : Type ℓ} where
       let e : whole ≡ f.done = f.split ∙ append-nil f.done in
       record { count = f.count ∙ ap length (sym e); entries = f.laid ∙ ap₂ (λ (l : List A) (k : ℕ). l ++ drop k out₀) (sym e) (f.count ∙ ap length (sym e)) }
 
--- ---- an entry that may be there
-module _ {ℓ} {A : Type ℓ} {b : Bool} (x : A) (n : ℕ) (old : List A) where
-  pub pushed_yes : b ≡ true → Pushed b x n old (set old n x) (n + 1)
-  pushed_yes e = record { count = rw e; entries = rw e }
-
-  pub pushed_no : b ≡ false → Pushed b x n old old n
-  pushed_no e = record { count = rw e; entries = rw e }
-
-module _ {ℓ} {A : Type ℓ} {whole rest out₀ out : List A} {n : ℕ} (b : Bool) (x : A) where
-  -- a push by a callee
-  pub fill_pushed : {out' : List A} {n' : ℕ} → Filling whole (cons_if b x rest) out₀ out n → Pushed b x n out out' n' → Filling whole rest out₀ out' n'
-  fill_pushed {out'} {n'} f p = rw (p.count, p.entries) (go b f)
-    where
-      go : (b : Bool) → Filling whole (cons_if b x rest) out₀ out n → Filling whole rest out₀ (cond b (set out n x) out) (more_if b n)
-      go true f = fill_push f
-      go false f = f
-
-pub fill_fits_if {ℓ} : {A : Type ℓ} {whole out₀ out : List A} {n : ℕ} (b : Bool) (x : A) (rest : List A) → b ≡ true → Filling whole (cons_if b x rest) out₀ out n → n < length out
-fill_fits_if {A} {whole} {out₀} {out} {n} b x rest e f = let g : Filling whole (x ∷ rest) out₀ out n = rw e at f in (fill_fits g).0
-
 -- ---- the list that comes back
 module _ {ℓ} {A : Type ℓ} {res old new : List A} {r : ℕ} (l : Listed res old new r) where
   pub listed_take : take r new ≡ res
@@ -86,9 +66,6 @@ module _ {ℓ} {A : Type ℓ} {res old new : List A} {r : ℕ} (l : Listed res o
 
   pub listed_count : r ≡ length (take r new)
   listed_count = l.count ∙ ap length (sym listed_take)
-
-  pub listed_front : Front res new r
-  listed_front = record { within = listed_fits; entries = listed_take }
 
   -- a result as long as the list is all of it
   pub listed_all : length old ≤ length res → new ≡ res
@@ -133,9 +110,6 @@ module _ {ℓ} {A : Type ℓ} (xs : List A) (i : ℕ) {whole out₀ out : List A
   pub fill_entry : (d : A) → i < length xs → Filling whole (drop i xs) out₀ out n → Filling whole (drop (i + 1) xs) out₀ (set out n (get_or xs i d)) (n + 1)
   fill_entry d h f = fill_push (rw (drop_step xs i d h) at f)
 
-  pub fill_over : length xs ≤ i → Filling whole (drop i xs) out₀ out n → Listed whole out₀ out n
-  fill_over h f = fill_end (rw (drop_of_length-le xs h) at f)
-
 -- and one whose entries are each changed alike
 module _ {ℓ κ} {A : Type ℓ} {B : Type κ} (g : A → B) (xs : List A) (i : ℕ) {whole out₀ out : List B} {n : ℕ} where
   pub fill_map : (d : A) → i < length xs → Filling whole (map g (drop i xs)) out₀ out n → Filling whole (map g (drop (i + 1) xs)) out₀ (set out n (g (get_or xs i d))) (n + 1)
@@ -151,13 +125,6 @@ filter_step p l i d h = rw (drop_step l i d h)
 pub filter_over {ℓ} : {A : Type ℓ} (p : A → Bool) (l : List A) (i : ℕ) → length l ≤ i → filter p (drop i l) ≡ []
 unfolding filter
 filter_over p l i h = rw (drop_of_length-le l h)
-
-module _ {ℓ} {A : Type ℓ} (t : A → Bool) (xs : List A) (i : ℕ) (d : A) (h : i < length xs) where
-  pub sift_yes : {whole out₀ out : List A} {n : ℕ} → t (get_or xs i d) ≡ true → Filling whole (filter t (drop i xs)) out₀ out n → Filling whole (get_or xs i d ∷ filter t (drop (i + 1) xs)) out₀ out n
-  sift_yes e f = rw (filter_step t xs i d h, e) at f
-
-  pub sift_no : {whole out₀ out : List A} {n : ℕ} → t (get_or xs i d) ≡ false → Filling whole (filter t (drop i xs)) out₀ out n → Filling whole (filter t (drop (i + 1) xs)) out₀ out n
-  sift_no e f = rw (filter_step t xs i d h, e) at f
 
 -- ---- the frames that pass
 pub keep_step : (t : ℕ → Bool) (i n : ℕ) → i < n → keep t i (n - i) ≡ cons_if (t i) i (keep t (i + 1) (n - (i + 1)))

@@ -6,8 +6,6 @@ pub mod Tabulated
 pub mod Counting
 pub mod Ordered
 pub mod Sorting
-mod Merging
-mod Halves
 pub mod Keys
 pub mod Members
 pub mod Marking

@@ -107,9 +107,6 @@ module _ {ℓ} {A : Type ℓ} (new old : List A) (a b : ℕ) where
   write_start h k l = record { from = omega arith; to = h; source = k; room = l; laid = replaced_none new old a }
 
   module _ {out : List A} {i : ℕ} (w : Writing new old a b out i) where
-    pub write_length : length out ≡ length old
-    write_length = ap length w.laid ∙ length_replaced new old a i w.from (omega arith) (omega arith)
-
     pub write_more : (d x : A) → i < b → x ≡ get_or new i d → Writing new old a b (set out i x) (i + 1)
     write_more d x h e =
         record {

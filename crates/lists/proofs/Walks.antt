@@ -115,9 +115,6 @@ module _ (t : ℕ → Bool) (i : ℕ) where
   back_start = record { high = omega arith; after = none_yet t (i + 1) }
 
   module _ {l : ℕ} (c : SeekingBack t i l) where
-    pub back_on : 0 < l → t l ≡ false → SeekingBack t i (l - 1)
-    back_on h e = let d : l - 1 + 1 ≡ l = omega arith in record { high = omega (arith, c.high); after = rw d (none_join t (none_one t l e) c.after) }
-
     pub back_stop : t l ≡ true → l ≡ last_frame t i
     back_stop e = back_found t i c (λ h. e)
 

@@ -1,5 +1,5 @@
 -- The results that are made of what passes a test (`filter`, `keep`); and scaffolding of the code's loops: how a result is written to a lent list. Definitions only.
-use Rattle.std.specs.Prelude.{ℕ, zero, suc, ◌+◌, ◌-◌, ◌≤◌, ◌≡◌, Bool, true, false, cond, List, [], ◌∷◌, ◌++◌, length, take, drop, set}
+use Rattle.std.specs.Prelude.{ℕ, zero, suc, ◌+◌, ◌-◌, ◌≤◌, ◌≡◌, Bool, true, false, List, [], ◌∷◌, ◌++◌, length, take, drop}
 
 -- `res` at the front of a lent list, whose entries past it stay
 unfoldable pub overlay {ℓ} : {A : Type ℓ} → List A → List A → List A
@@ -29,11 +29,6 @@ filter p (x ∷ xs) = cons_if (p x) x (filter p xs)
 abbrev pub more_if : Bool → ℕ → ℕ
 more_if true n = n + 1
 more_if false n = n
-
--- what a call leaves that writes one entry at the count n where b holds, and returns the new count r
-pub record Pushed {ℓ} {A : Type ℓ} (b : Bool) (x : A) (n : ℕ) (old new : List A) (r : ℕ) : Type ℓ where
-  pub count : r ≡ more_if b n
-  pub entries : new ≡ cond b (set old n x) old
 
 -- of the k frames from i on, those that pass
 unfoldable pub keep : (ℕ → Bool) → ℕ → ℕ → List ℕ

@@ -1,4 +1,5 @@
 // Candidates as whole numbers, whose rising order takes the heavier first and the earlier frame where they weigh the same.
+// A number and no struct with an order of its own: docs/CONTRACTS.md tells the order by `key_of`, and one comparison sorts.
 ghost use Rattle.std.specs.Prelude.{◌≡◌};
 ghost use Rattle.lists.specs.Candidates.{key_of, frame_in};
 

@@ -14,28 +14,17 @@ use Rattle.report.specs.Shown.{printed}
 use Rattle.report.proofs.Parts.{refused_printed}
 use Rattle.std.specs.Prelude.{Option, Some, None, IfSome}
 use Rattle.std.proofs.lemmas.List.{take-append-drop}
-use Rattle.lists.specs.Results.{Listed}
-use Rattle.lists.proofs.Fill.{relisted}
 use Rattle.input.specs.Held.{Holds, Added, pieces_joined}
-use Rattle.input.specs.Reading.{StoppedIn}
-use Rattle.input.specs.declared.Input.TheVariants.{Whole, Longer}
 use Rattle.input.proofs.Adding.{pieces_held}
-use Rattle.marks.specs.Answer.{longest, TextOf}
-use Rattle.marks.specs.declared.Outcome.{Outcome}
-use Rattle.marks.specs.declared.Outcome.TheVariants.{Unread, Told}
+use Rattle.marks.specs.Answer.{longest}
 
 -- ---- the bytes that are held
-module _ {came file : List ℕ} {total : ℕ} (h : Holds came file total) where
-  -- all that came
-  pub whole_told : total ≤ length file → printed (take total file) ≡ printed came
-  whole_told l = ap printed (h.bytes ∙ take_all (length file) came (omega (arith, h.count)))
-
-  -- the first of more than every take has
-  pub longer_told : largest ≤ length file → length file < total → refused_listing (refusal_by file total) ≡ printed came
-  longer_told l m =
-      let first : file ≡ take (length file) came = sym (take_all total file (omega arith)) ∙ h.bytes in
-      let same : refusal_by file total ≡ file_refusal came = ap (λ (s : List ℕ). refusal_by s total) first ∙ ap (refusal_by (take (length file) came)) h.count ∙ refusal_kept (length file) came (omega arith) in
-      ap refused_listing same ∙ refused_printed came (refused_longer came (omega (arith, h.count)))
+-- the first of more than every take has
+pub longer_told : {came file : List ℕ} {total : ℕ} → Holds came file total → largest ≤ length file → length file < total → refused_listing (refusal_by file total) ≡ printed came
+longer_told {came} {file} {total} h l m =
+    let first : file ≡ take (length file) came = sym (take_all total file (omega arith)) ∙ h.bytes in
+    let same : refusal_by file total ≡ file_refusal came = ap (λ (s : List ℕ). refusal_by s total) first ∙ ap (refusal_by (take (length file) came)) h.count ∙ refusal_kept (length file) came (omega arith) in
+    ap refused_listing same ∙ refused_printed came (refused_longer came (omega (arith, h.count)))
 
 -- ---- bytes that are not read
 module _ (came rest : List ℕ) (bytes : (i : ℕ) → get_or (came ++ rest) i 0 < 256) (past : longest < length came) where
@@ -60,23 +49,11 @@ pub pieces_told : {pieces : List (List ℕ)} {file left : List ℕ} {total : ℕ
 pieces_told {pieces} {total = total} a rest bytes s = ⊎_elim (λ e. ap printed (sym (ap (λ (r : List ℕ). pieces_joined pieces ++ r) e ∙ append-nil (pieces_joined pieces)))) (λ p. unread_alike (pieces_joined pieces) rest bytes (omega (arith, (pieces_held a).count))) s
 
 -- ---- an input whose bytes are known
--- what its text answers, by what reading leaves of it
-abbrev pub Answered : Option (List ℕ) → List ℕ → List ℕ → Outcome → Type 0
-Answered o old new r = IfSome o (λ came. ((i : ℕ) → get_or came i 0 < 256) → TextOf came old new r)
-
-pub unread_answered : (o : Option (List ℕ)) (old new : List ℕ) → Answered o old new Unread
-unread_answered None old new = tt
-unread_answered (Some came) old new = λ bytes. tt
-
-module _ {file old new : List ℕ} {total n : ℕ} (tells : (came : List ℕ) → Holds came file total → Listed (printed came) old new n) where
-  pub whole_answered : (o : Option (List ℕ)) → IfSome o (λ came. StoppedIn longest came file (Whole total)) → Answered o old new (Told n)
-  whole_answered None h = tt
-  whole_answered (Some came) h = λ bytes. tells came h
-
-  pub longer_answered : (o : Option (List ℕ)) → IfSome o (λ came. StoppedIn longest came file (Longer total)) → Answered o old new (Told n)
-  longer_answered None h = tt
-  longer_answered (Some came) h =
-      let all : take total came ++ drop total came ≡ came = take-append-drop total came in
-      λ bytes. relisted
-      (unread_alike (take total came) (drop total came) (rw all bytes) (omega (arith, h.0.count, h.1)) ∙ ap printed all)
-      (tells (take total came) h.0)
+-- where it is not read to its end, what is held of it has its text
+pub longer_answered : {file text : List ℕ} {total : ℕ} → ((came : List ℕ) → Holds came file total → text ≡ printed came) → (o : Option (List ℕ)) → IfSome o (λ came. Holds (take total came) file total × (longest < total)) → IfSome o (λ came. ((i : ℕ) → get_or came i 0 < 256) → text ≡ printed came)
+longer_answered tells None h = tt
+longer_answered {total = total} tells (Some came) h =
+    let all : take total came ++ drop total came ≡ came = take-append-drop total came in
+    λ bytes. tells (take total came) h.0
+    ∙ unread_alike (take total came) (drop total came) (rw all bytes) (omega (arith, h.0.count, h.1))
+    ∙ ap printed all

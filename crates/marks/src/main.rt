@@ -4,10 +4,8 @@
 
 ghost use Rattle.std.specs.Prelude.{◌≡◌, List, ℕ, ◌<◌, ◌≤◌, IfSome, get_or, length};
 ghost use Rattle.take.specs.File.{largest};
-ghost use Rattle.take.specs.Listing.{largest_listing};
 ghost use Rattle.input.specs.Held.{Holds};
 ghost use Rattle.input.specs.Reading.{Stopped, StoppedIn};
-ghost use Rattle.lists.specs.Results.{Listed};
 ghost use Rattle.report.specs.Shown.{printed};
 ghost use Rattle.marks.specs.Answer.{longest, TextAnswered, TextOf};
 
@@ -16,82 +14,58 @@ use std::env::Env;
 use std::io;
 use std::io::Read;
 use take::file::take_refusal;
-use take::listing::refused;
+use take::listing::{LARGEST_LISTING, refused};
+use take::text::Page;
 
 // The bytes of a file of 65,535 frames, the most that a head can name: no longer one agrees.
 const LONGEST: usize = 1_114_114;
 
-// What became of the input: it could not be read, or its listing has so many bytes.
-#[derive(Clone, Copy)]
-pub enum Outcome {
-    Unread,
-    Told(usize),
-}
-
-// Room for the largest take; the bytes past it are only counted.
-fn blank_file() -> [u8; 34835]
-    ensures { length result ≡ 34835 }
-{
-    [0u8; 34835]
-}
-
-// Room for every listing.
-fn blank_page() -> [u8; 237617]
-    ensures { length result ≡ 237617 }
-{
-    [0u8; 237617]
-}
-
 // Reads the input to its end, or until it has more bytes than agree with any head.
-fn read_file<R: Read>(reader: &mut R, file: &mut [u8]) -> Input
+fn read_file<R: Read>(reader: &mut R, file: &mut [u8]) -> io::Result<Input>
     ensures pieces { Stopped longest file.old file.new result }
     ensures known { IfSome (R.remaining reader.old) (λ came. StoppedIn longest came file.new result) }
 {
     input::read_all(reader, file, LONGEST)
 }
 
-// Writes what is printed for an input of which the file has the first bytes, and answers how many bytes that takes. One that
-// is longer than every take is refused, and its head and size tell by which number.
-fn tell(file: &[u8], total: usize, page: &mut [u8]) -> usize
-    requires largest_in_bounds { largest ≤ length file.now }
-    requires largest_listing_in_bounds { largest_listing ≤ length page.old }
-    ensures { (came : List ℕ) → Holds came file.now total
-        → Listed (printed came) page.old page.new result }
+// What is printed for an input of which the file has the first bytes. One that is longer than every take is refused, and its
+// head and size tell by which number.
+fn tell(file: &[u8], total: usize) -> Page<LARGEST_LISTING>
+    requires { largest ≤ length file.now }
+    ensures { (came : List ℕ) → Holds came file.now total → result ≡ printed came }
 {
     if total <= file.len() {
-        return report::marks_of(&file[..total], page);
+        return report::marks_of(&file[..total]);
     }
-    refused(take_refusal(file, total), page)
+    match take_refusal(file, total) {
+        Err(refusal) => refused(refusal),
+        // No take is longer than what is held.
+        Ok(()) => unreachable!(),
+    }
 }
 
-// Reads the input and writes what is printed for it. Past the longest file that does not depend on what was left unread.
-fn answer<R: Read>(reader: &mut R, page: &mut [u8]) -> Outcome
-    requires { largest_listing ≤ length page.old }
-    ensures pieces { TextAnswered page.old page.new result }
+// Reads the input, and answers what is printed for it. Past the longest file that does not depend on what was left unread.
+fn answer<R: Read>(reader: &mut R) -> io::Result<Page<LARGEST_LISTING>>
+    ensures pieces { TextAnswered result }
     ensures known { IfSome (R.remaining reader.old)
-        (λ came. ((i : ℕ) → get_or came i 0 < 256) → TextOf came page.old page.new result) }
+        (λ came. ((i : ℕ) → get_or came i 0 < 256) → TextOf came result) }
 {
-    let mut file = blank_file();
-    match read_file(reader, &mut file) {
-        Input::Failed => Outcome::Unread,
-        Input::Whole(total) => Outcome::Told(tell(&file, total, page)),
-        Input::Longer(total) => Outcome::Told(tell(&file, total, page)),
+    // Room for the largest take; the bytes past it are only counted.
+    let mut file = [0u8; 34835];
+    match read_file(reader, &mut file)? {
+        Input::Whole(total) => Ok(tell(&file, total)),
+        Input::Longer(total) => Ok(tell(&file, total)),
     }
 }
 
 // Reads standard input and prints what is to be printed for it.
 fn mark_input(rt: &(impl io::Input + Print + Eprint)) {
-    let mut page = blank_page();
-    match answer(&mut rt.reader(), &mut page) {
-        Outcome::Unread => {
-            let _ = rt.eprint("marks: standard input could not be read\n");
-        }
-        Outcome::Told(n) => {
-            if rt.write_all(&page[..n]).is_ok() {
-                return;
-            }
-            let _ = rt.eprint("marks: the listing could not be written\n");
-        }
+    let Ok(page) = answer(&mut rt.reader()) else {
+        let _ = rt.eprint("marks: standard input could not be read\n");
+        return;
+    };
+    if rt.write_all(page.as_slice()).is_err() {
+        let _ = rt.eprint("marks: the listing could not be written\n");
     }
 }
 

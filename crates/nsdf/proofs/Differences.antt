@@ -8,7 +8,7 @@ use mathlib.Core.List.{List, [], ◌∷◌, ◌++◌}
 use mathlib.Core.Logic.{◌⊎◌, inl, inr}
 use lib.IntN.{ℤ, pos}
 use lib.ListN.{length, get_or, take, drop, set, length-drop, length-set, replicate}
-use lib.Seq.{take-suc, take-length, take_all, get_or-set_same, get_or-set_other}
+use lib.Seq.{take-suc, take-length, get_or-set_same, get_or-set_other}
 use Rattle.nsdf.specs.Nsdf.{power, square}
 use Rattle.nsdf.specs.Running.{squares, Running}
 
@@ -83,15 +83,14 @@ module _ (w : List ℤ) (sq : List ℕ) (lag : ℕ) (run : Running w sq) (more :
 
 abbrev pub Filled : List ℤ → List ℕ → ℕ → ℕ → Type 0
 Filled w sq sum i =
-    (i ≤ length w)
-    × (length sq ≡ 513)
+    (length sq ≡ 513)
     × (sum ≤ 1073741824 * i)
     × (sum ≡ squares (take i w))
     × ((j : ℕ) → j ≤ i → get_or sq j 0 ≡ squares (take j w))
 
 pub fill_first : (w : List ℤ) → Filled w (replicate 513 0) 0 0
 unfolding squares
-fill_first w = (zero-le, refl, zero-le, refl, λ j h. subst (λ (n : ℕ). get_or (replicate 513 0) n 0 ≡ squares (take n w)) (none j h) refl)
+fill_first w = (refl, zero-le, refl, λ j h. subst (λ (n : ℕ). get_or (replicate 513 0) n 0 ≡ squares (take n w)) (none j h) refl)
   where
     none : (j : ℕ) → j ≤ 0 → 0 ≡ j
     none j h = omega arith
@@ -99,9 +98,8 @@ fill_first w = (zero-le, refl, zero-le, refl, λ j h. subst (λ (n : ℕ). get_o
 pub fill_turn : (w : List ℤ) (sq : List ℕ) (sum i v : ℕ) → length w ≤ 512 → Filled w sq sum i → i < length w → v ≡ square (get_or w i (pos 0)) → v ≤ 1073741824
     → Filled w (set sq (i + 1) (sum + v)) (sum + v) (i + 1)
 fill_turn w sq sum i v short f h e small =
-    let now : sum + v ≡ squares (take (i + 1) w) = ap (λ (n : ℕ). n + v) f.3 ∙ ap (λ (n : ℕ). squares (take i w) + n) e ∙ sym (squares_more w i h) in (
-      omega arith,
-      length-set sq (i + 1) (sum + v) ∙ f.1,
+    let now : sum + v ≡ squares (take (i + 1) w) = ap (λ (n : ℕ). n + v) f.2 ∙ ap (λ (n : ℕ). squares (take i w) + n) e ∙ sym (squares_more w i h) in (
+      length-set sq (i + 1) (sum + v) ∙ f.0,
       omega arith,
       now,
       λ j g. go now j (eq-or-lt_of_le g),
@@ -118,10 +116,4 @@ fill_turn w sq sum i v short f h e small =
 
     go : sum + v ≡ squares (take (i + 1) w) → (j : ℕ) → (j ≡ i + 1) ⊎ (j < i + 1) → get_or (set sq (i + 1) (sum + v)) j 0 ≡ squares (take j w)
     go now j (inl g) = rw g (get_or-set_same sq (i + 1) (sum + v) 0 fit ∙ now)
-    go now j (inr g) = get_or-set_other sq (i + 1) j (sum + v) 0 (differ j g) ∙ f.4 j (less j g)
-
-pub fill_last : (w : List ℤ) (sq : List ℕ) (sum i : ℕ) → length w ≤ 512 → Filled w sq sum i → length w ≤ i → Running w sq
-fill_last w sq sum i short f done = record {
-  sums = λ j h. f.4 j (omega arith);
-  small = subst (λ (l : List ℤ). squares l ≤ 2 ^ 39) (take_all i w done) (omega arith);
-}
+    go now j (inr g) = get_or-set_other sq (i + 1) j (sum + v) 0 (differ j g) ∙ f.3 j (less j g)

@@ -1,8 +1,7 @@
 -- The code's floating-point numbers, by their bits, are the decimals that the definitions have. Assumes nothing.
 use mathlib.Core.Path.{◌≡◌, refl}
-use mathlib.Core.Bool.{true}
 use lib.IntN.{pos}
-use lib.Ieee.{inf, binary64, of_bits, round, neg, div}
+use lib.Ieee.{binary64, of_bits, round}
 use Rattle.floats.specs.Ratio.{ratio}
 
 pub six_tenths : of_bits binary64 0x3fe3_3333_3333_3333 ≡ ratio binary64 (pos 6) 10
@@ -16,7 +15,3 @@ nine_tenths = refl
 pub sixteen_thousand : of_bits binary64 0x40cf_4000_0000_0000 ≡ ratio binary64 (pos 16000) 1
 unfolding of_bits round
 sixteen_thousand = refl
-
-pub lowest : div binary64 (neg (of_bits binary64 0x3ff0_0000_0000_0000)) (of_bits binary64 0) ≡ inf true
-unfolding of_bits neg div
-lowest = refl

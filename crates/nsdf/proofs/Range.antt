@@ -12,9 +12,7 @@ use lib.Ieee.Back.{round_whole}
 use Rattle.floats.specs.Ratio.{ratio}
 use Rattle.floats.specs.Sizes.{Within, Half, FromTo}
 use Rattle.floats.proofs.Sizes.{from_to_wider, from_to_le, add_from_to, div_from_to}
-use Rattle.nsdf.specs.declared.period.Estimate.TheVariants.{Nothing, Hz}
-use Rattle.nsdf.specs.declared.period.Peak.{Peak}
-use Rattle.nsdf.specs.declared.period.Peak.TheVariants.{At, Missing}
+use Rattle.std.specs.Prelude.{Option, None, Some}
 use Rattle.nsdf.specs.Nsdf.{window}
 use Rattle.lists.specs.Frames.{at}
 use Rattle.nsdf.specs.Period.{clamped, shift, measured, refined, first_peak, best_peak, by_peak, estimated, period_hz}
@@ -37,9 +35,6 @@ lag_between k y g h p =
 
 -- ---- the estimate, from any periodicities that are at most 1 in size
 
-pub not_both : {x : Float} → Nothing ≡ Hz x → ⊥
-not_both e = let z : ◌≡◌ {A = ℕ} 0 1 = cc in omega arith
-
 module _ (d : List Float) (small : (k : ℕ) → k < 200 → Within 1 (at d k)) where
   refined_between : (k : ℕ) → 0 < k → k < 199 → FromTo 31 230 (refined d k)
   unfolding refined
@@ -47,29 +42,29 @@ module _ (d : List Float) (small : (k : ℕ) → k < 200 → Within 1 (at d k)) 
       let s = shift (at d (k - 1)) (at d k) (at d (k + 1)) in
       lag_between k (clamped s) g h (clamped_half s (shift_number (at d (k - 1)) (at d k) (at d (k + 1)) (small (k - 1) (omega arith)) (small (k + 1) (omega arith))))
 
-  peak_between : (least : Float) (p : Peak) (x : Float) → first_peak d least ≡ p → by_peak d p ≡ Hz x → FromTo 69 517 x
-  peak_between least Missing x q e = absurd (not_both e)
-  peak_between least (At k) x q e =
+  peak_between : (least : Float) (p : Option ℕ) (x : Float) → first_peak d least ≡ p → by_peak d p ≡ Some x → FromTo 69 517 x
+  peak_between least None x q e = cc
+  peak_between least (Some k) x q e =
       let r : div binary64 (ratio binary64 (pos 16000) 1) (refined d k) ≡ x = cc in
       let h = peak_within d least k q in
       subst (FromTo 69 517) r
       (div_from_to binary64 16000 31 230 69 517 (lit< tt) (lit≤ tt) (lit≤ tt) (lit≤ tt) (lit≤ tt) (ratio binary64 (pos 16000) 1) (refined d k)
       (round_whole binary64 false 16000 (lit≤ tt)) (refined_between k h.0 h.1))
 
-  pub estimated_between : (x : Float) → estimated d ≡ Hz x → FromTo 69 517 x
+  pub estimated_between : (x : Float) → estimated d ≡ Some x → FromTo 69 517 x
   unfolding estimated
   estimated_between x = go (lt (best_peak d) (ratio binary64 (pos 6) 10))
     where
       least : Float
       least = mul binary64 (ratio binary64 (pos 9) 10) (best_peak d)
 
-      go : (t : Bool) → cond t Nothing (by_peak d (first_peak d least)) ≡ Hz x → FromTo 69 517 x
-      go true e = absurd (not_both e)
+      go : (t : Bool) → cond t None (by_peak d (first_peak d least)) ≡ Some x → FromTo 69 517 x
+      go true e = cc
       go false e = peak_between least (first_peak d least) x refl e
 
 -- ---- the 16-bit samples
 
-pub period_range : (xs : List ℤ) (centre : ℕ) (x : Float) → period_hz xs centre ≡ Hz x → T (le (fin false 60 (pos 0)) x) × T (le x (fin false 600 (pos 0)))
+pub period_range : (xs : List ℤ) (centre : ℕ) (x : Float) → period_hz xs centre ≡ Some x → T (le (fin false 60 (pos 0)) x) × T (le x (fin false 600 (pos 0)))
 unfolding period_hz
 period_range xs centre x e =
     let w = window xs centre in

@@ -14,7 +14,7 @@ use lib.Ieee.Scale.{round_same}
 use Rattle.floats.specs.Ratio.{ratio}
 use Rattle.lists.specs.Results.{keep}
 use Rattle.lists.proofs.Fill.{keep_over, keep_pass}
-use Rattle.nsdf.specs.declared.period.Estimate.TheVariants.{Nothing}
+use Rattle.std.specs.Prelude.{None}
 use Rattle.nsdf.specs.Nsdf.{square, cross, power, normalised, nsdf, window}
 use Rattle.nsdf.specs.Period.{measured, is_peak, best_peak, estimated, period_hz}
 use Rattle.nsdf.proofs.Whole.{square_is}
@@ -96,7 +96,7 @@ no_peak m v k g h =
       not_above ((m - (31 + (k - 1))) * square v) ((m - (31 + k)) * square v) (mul-le-mul_right (square v) (omega arith)),
     )
 
-pub period_steady : (n : ℕ) (v : ℤ) (centre : ℕ) → period_hz (replicate n v) centre ≡ Nothing
+pub period_steady : (n : ℕ) (v : ℤ) (centre : ℕ) → period_hz (replicate n v) centre ≡ None
 unfolding period_hz estimated best_peak lt round
 period_steady n v centre =
     let m = min (centre + 256) n - (centre - 256) in

@@ -1,16 +1,15 @@
 -- The sums of products and of squares, one pair at a time, and that twice the products are at most the squares. Assumes nothing.
 use mathlib.Core.Path.{◌≡◌, refl, sym, ap, ◌∙◌}
-use Prim.Native.Nat.{ℕ, zero, suc, ◌+◌, ◌-◌, ◌*◌, ◌^◌, ◌≤◌, ◌<◌, zero-le}
-use native.Mathlib.Nat.{add_assoc, zero-add, add-zero, le_trans, lt_of_le_of_lt, zero-mul, mul-zero, mul-suc, suc-mul}
+use Prim.Native.Nat.{ℕ, zero, suc, ◌+◌, ◌*◌, ◌^◌, ◌≤◌, ◌<◌, zero-le}
+use native.Mathlib.Nat.{add_assoc, add-zero, le_trans, zero-mul, mul-zero, mul-suc, suc-mul}
 use native.Mathlib.Numerals.{add-one}
 use native.Mathlib.Omega.{arith}
 use mathlib.Core.List.{List, [], ◌∷◌}
-use lib.IntN.{ℤ, pos, nat_abs, ◌+ℤ◌, ◌*ℤ◌, +ℤ_assoc, +ℤ_idl, +ℤ_idr}
+use lib.IntN.{ℤ, pos, nat_abs, ◌+ℤ◌, ◌*ℤ◌, +ℤ_assoc, +ℤ_idr}
 use lib.ListN.{length, get_or, drop, drop_of_length-le}
 use lib.Seq.{drop-cons}
-use lib.Dec.{lit<}
 use mir.Syntax.{w64}
-use mir.Val.{SFits, to_z, of_z}
+use mir.Val.{to_z, of_z}
 use mir.ValLaws.{to_z-of_z}
 use Rattle.nsdf.proofs.Whole.{small, abs_add, abs_mul}
 use Rattle.nsdf.specs.Nsdf.{cross, power, square, normalised, nsdf}
@@ -35,90 +34,48 @@ power_end w xs j h = rw (drop_of_length-le w h) (power_nil xs)
 
 -- ---- the next pair
 
-module _ (w : List ℤ) (lag i : ℕ) (d : ℤ) (fits : i + lag < length w) where
-  here : i < length w
-  here = omega arith
-
-  next : i + 1 + lag ≡ suc (i + lag)
-  next = omega arith
-
-  cross_next : cross (drop i w) (drop (i + lag) w) ≡ get_or w i d *ℤ get_or w (i + lag) d +ℤ cross (drop (i + 1) w) (drop (i + 1 + lag) w)
+module _ (xs ys : List ℤ) (i : ℕ) (h : i < length xs) (k : i < length ys) where
+  cross_next : cross (drop i xs) (drop i ys) ≡ get_or xs i (pos 0) *ℤ get_or ys i (pos 0) +ℤ cross (drop (i + 1) xs) (drop (i + 1) ys)
   unfolding cross
-  cross_next = rw (next, add-one, drop-cons w i d here, drop-cons w (i + lag) d fits)
+  cross_next = rw (add-one, drop-cons xs i (pos 0) h, drop-cons ys i (pos 0) k)
 
-  power_next : power (drop i w) (drop (i + lag) w) ≡ square (get_or w i d) + square (get_or w (i + lag) d) + power (drop (i + 1) w) (drop (i + 1 + lag) w)
+  power_next : power (drop i xs) (drop i ys) ≡ square (get_or xs i (pos 0)) + square (get_or ys i (pos 0)) + power (drop (i + 1) xs) (drop (i + 1) ys)
   unfolding power
-  power_next = rw (next, add-one, drop-cons w i d here, drop-cons w (i + lag) d fits)
+  power_next = rw (add-one, drop-cons xs i (pos 0) h, drop-cons ys i (pos 0) k)
 
 -- ---- the loops: what is added after i of the pairs, with what is still to come, is the whole
 
 -- the products
-abbrev pub Crossed : List ℤ → ℕ → ℕ → ℤ → ℕ → Type 0
-Crossed w lag pairs sum i =
-    (i ≤ pairs)
-    × (pairs + lag ≡ length w)
-    × (nat_abs sum ≤ 1073741824 * i)
-    × (sum +ℤ cross (drop i w) (drop (i + lag) w) ≡ cross w (drop lag w))
+abbrev pub Crossed : List ℤ → List ℤ → ℤ → ℕ → Type 0
+Crossed xs ys sum i = (nat_abs sum ≤ 1073741824 * i) × (sum +ℤ cross (drop i xs) (drop i ys) ≡ cross xs ys)
 
 -- the squares
-abbrev pub Powered : List ℤ → ℕ → ℕ → ℕ → ℕ → Type 0
-Powered w lag pairs sum i =
-    (i ≤ pairs)
-    × (pairs + lag ≡ length w)
-    × (sum ≤ 2147483648 * i)
-    × (sum + power (drop i w) (drop (i + lag) w) ≡ power w (drop lag w))
+abbrev pub Powered : List ℤ → List ℤ → ℕ → ℕ → Type 0
+Powered xs ys sum i = (sum ≤ 2147483648 * i) × (sum + power (drop i xs) (drop i ys) ≡ power xs ys)
 
-module _ (w : List ℤ) (lag : ℕ) (h : lag < length w) where
-  pub cross_first : Crossed w lag (length w - lag) (pos 0) 0
-  cross_first = (omega arith, omega arith, omega arith, rw (zero-add lag) (+ℤ_idl _))
+-- one product more
+sum_small : (sum : ℤ) (i : ℕ) (r : ℤ) → nat_abs sum ≤ 1073741824 * i → nat_abs r ≤ 1073741824 → nat_abs (sum +ℤ r) ≤ 1073741824 * (i + 1)
+sum_small sum i r h k = le_trans (abs_add sum r) (omega arith)
 
-  pub power_first : Powered w lag (length w - lag) 0 0
-  power_first = (omega arith, omega arith, omega arith, rw (zero-add lag) (zero-add _))
+module _ (xs ys : List ℤ) (i : ℕ) (h : i < length xs) (k : i < length ys) where
+  pub cross_turn : (sum : ℤ) → Crossed xs ys sum i → (r : ℤ) → r ≡ get_or xs i (pos 0) *ℤ get_or ys i (pos 0) → nat_abs r ≤ 1073741824 → Crossed xs ys (sum +ℤ r) (i + 1)
+  cross_turn sum p r e r_small = (
+    sum_small sum i r p.0 r_small,
+    rw e (+ℤ_assoc sum _ _ ∙ ap (λ (z : ℤ). sum +ℤ z) (sym (cross_next xs ys i h k)) ∙ p.1),
+  )
 
--- a product reads back as itself
-pub product_back : (r : ℤ) → nat_abs r ≤ 1073741824 → to_z w64 (of_z w64 r) ≡ r
-product_back r r_small = to_z-of_z w64 r (small r (lt_of_le_of_lt r_small (lit< tt)))
+  pub power_turn : (sum : ℕ) → Powered xs ys sum i → (s t : ℕ) → s ≡ square (get_or xs i (pos 0)) → s ≤ 1073741824 → t ≡ square (get_or ys i (pos 0)) → t ≤ 1073741824 → Powered xs ys (sum + (s + t)) (i + 1)
+  power_turn sum p s t e s-small f t-small = (
+    omega arith,
+    rw (e, f) (add_assoc sum _ _ ∙ ap (λ (n : ℕ). sum + n) (sym (power_next xs ys i h k)) ∙ p.1),
+  )
 
--- one product more still fits
-module _ (sum : ℤ) (i : ℕ) (r : ℤ) (few : i ≤ 512) (so_far : nat_abs sum ≤ 1073741824 * i) (r_small : nat_abs r ≤ 1073741824) where
-  sum_small : nat_abs (sum +ℤ r) ≤ 1073741824 * (i + 1)
-  sum_small = le_trans (abs_add sum r) (omega arith)
+module _ (xs ys : List ℤ) (i : ℕ) (done : length ys ≤ i) where
+  pub cross_last : (sum : ℤ) → Crossed xs ys sum i → sum ≡ cross xs ys
+  cross_last sum p = sym (+ℤ_idr sum) ∙ ap (λ (z : ℤ). sum +ℤ z) (sym (cross_end ys (drop i xs) i done)) ∙ p.1
 
-  pub sum_fits : SFits w64 (sum +ℤ r)
-  sum_fits = small (sum +ℤ r) (lt_of_le_of_lt sum_small (omega arith))
-
-module _ (w : List ℤ) (lag pairs i : ℕ) (short : length w ≤ 512) (more : i < pairs) where
-  pub cross_turn : (sum : ℤ) → Crossed w lag pairs sum i → (r : ℤ) → r ≡ get_or w i (pos 0) *ℤ get_or w (i + lag) (pos 0) → nat_abs r ≤ 1073741824
-      → Crossed w lag pairs (sum +ℤ r) (i + 1)
-  cross_turn sum p r r-is r_small =
-      let few : i ≤ 512 = omega arith in
-      let within : i + lag < length w = omega arith in (
-        omega arith,
-        p.1,
-        sum_small sum i r few p.2 r_small,
-        rw r-is (+ℤ_assoc sum _ _ ∙ ap (λ (z : ℤ). sum +ℤ z) (sym (cross_next w lag i (pos 0) within)) ∙ p.3),
-      )
-
-  pub power_turn : (sum : ℕ) → Powered w lag pairs sum i → (s t : ℕ) → s ≡ square (get_or w i (pos 0)) → s ≤ 1073741824
-      → t ≡ square (get_or w (i + lag) (pos 0)) → t ≤ 1073741824 → Powered w lag pairs (sum + (s + t)) (i + 1)
-  power_turn sum p s t s-is s-small t-is t-small =
-      let within : i + lag < length w = omega arith in (
-        omega arith,
-        p.1,
-        omega arith,
-        rw (s-is, t-is) (add_assoc sum _ _ ∙ ap (λ (n : ℕ). sum + n) (sym (power_next w lag i (pos 0) within)) ∙ p.3),
-      )
-
-module _ (w : List ℤ) (lag pairs i : ℕ) (done : pairs ≤ i) where
-  pub cross_last : (sum : ℤ) → Crossed w lag pairs sum i → sum ≡ cross w (drop lag w)
-  cross_last sum p =
-      let all : length w ≤ i + lag = omega arith in
-      sym (+ℤ_idr sum) ∙ ap (λ (z : ℤ). sum +ℤ z) (sym (cross_end w (drop i w) (i + lag) all)) ∙ p.3
-
-  pub power_last : (sum : ℕ) → Powered w lag pairs sum i → sum ≡ power w (drop lag w)
-  power_last sum p =
-      let all : length w ≤ i + lag = omega arith in
-      sym (add-zero sum) ∙ ap (λ (n : ℕ). sum + n) (sym (power_end w (drop i w) (i + lag) all)) ∙ p.3
+  pub power_last : (sum : ℕ) → Powered xs ys sum i → sum ≡ power xs ys
+  power_last sum p = sym (add-zero sum) ∙ ap (λ (n : ℕ). sum + n) (sym (power_end ys (drop i xs) i done)) ∙ p.1
 
 -- ---- twice the products are at most the squares, whatever their signs
 

@@ -8,8 +8,7 @@ use lib.Dec.{T, ltb, ltb→lt, lit<}
 use lib.IntN.{ℤ, pos, negsuc, neg_ℤ, nat_abs, sub_ℕ, ◌+ℤ◌, ◌*ℤ◌}
 use lib.Signed.{mag, nat_abs-le}
 use mir.Syntax.{w16, w64}
-use mir.Val.{SFits, to_z, of_z}
-use mir.ValLaws.{to_z-of_z}
+use mir.Val.{SFits}
 
 abs_neg : (n : ℕ) → nat_abs (neg_ℤ (pos n)) ≡ n
 abs_neg zero = refl
@@ -42,30 +41,17 @@ mag_le (negsuc n) = omega arith
 pub small : (z : ℤ) → nat_abs z < 2 ^ 63 → SFits w64 z
 small z h = record { sfits = lt_of_le_of_lt (mag_le z) h }
 
--- a 16-bit sample is 2 ^ 15 at most in size, so it fits an i64, and so does the product of two
+-- a 16-bit sample is 2 ^ 15 at most in size
 sample : (z : ℤ) → SFits w16 z → nat_abs z ≤ 2 ^ 15
 sample z f = nat_abs-le z f.sfits
 
-pub wide : (z : ℤ) → SFits w16 z → SFits w64 z
-wide z f = small z (lt_of_le_of_lt (sample z f) (lit< tt))
-
 pub abs_product : (a b : ℤ) → SFits w16 a → SFits w16 b → nat_abs (a *ℤ b) ≤ 2 ^ 30
 abs_product a b f g = le_trans (le_of_eq (abs_mul a b)) (mul-le-mul (sample a f) (sample b g))
-
-pub product_fits : (a b : ℤ) → SFits w16 a → SFits w16 b → SFits w64 (a *ℤ b)
-product_fits a b f g = small (a *ℤ b) (lt_of_le_of_lt (abs_product a b f g) (lit< tt))
 
 -- a square is not below 0
 pub square_is : (a : ℤ) → a *ℤ a ≡ pos (nat_abs a * nat_abs a)
 square_is (pos a) = refl
 square_is (negsuc a) = refl
-
--- samples that were passed on by their bits
-pub product_read : (a b : ℤ) → SFits w16 a → SFits w16 b → to_z w16 (of_z w16 a) *ℤ to_z w16 (of_z w16 b) ≡ a *ℤ b
-product_read a b f g = rw (to_z-of_z w16 a f, to_z-of_z w16 b g)
-
-pub square_read : (a : ℤ) → SFits w16 a → nat_abs (to_z w16 (of_z w16 a)) * nat_abs (to_z w16 (of_z w16 a)) ≡ nat_abs a * nat_abs a
-square_read a f = rw (to_z-of_z w16 a f)
 
 -- twice a number whose double is at most b, which an f64 counts without a gap
 module _ (z : ℤ) (b : ℕ) (h : 2 * nat_abs z ≤ b) (few : b ≤ 2 ^ 53) where

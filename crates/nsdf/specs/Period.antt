@@ -1,5 +1,5 @@
 -- The pitch of a take around a sample, from the peaks of its periodicity. Definitions only.
-use Rattle.std.specs.Prelude.{ℕ, ◌+◌, ◌-◌, Bool, true, cond, ◌&&◌, List, [], ◌∷◌, map, ℤ, pos, Float}
+use Rattle.std.specs.Prelude.{ℕ, ◌+◌, ◌-◌, Bool, true, cond, ◌&&◌, List, [], ◌∷◌, map, ℤ, pos, Float, Option, None, Some}
 use Rattle.std.specs.Float.{inf, binary64}
 use Rattle.std.specs.Float.Ieee.{add, sub, mul, div, neg, lt, le, of_int}
 use Rattle.floats.specs.Plain.{zero_f, half, two}
@@ -7,10 +7,6 @@ use Rattle.floats.specs.Ratio.{ratio}
 use Rattle.lists.specs.Frames.{at, tabulate}
 use Rattle.lists.specs.Results.{keep}
 use Rattle.lists.specs.By.{best_of}
-use Rattle.nsdf.specs.declared.period.Estimate.{Estimate}
-use Rattle.nsdf.specs.declared.period.Estimate.TheVariants.{Nothing, Hz}
-use Rattle.nsdf.specs.declared.period.Peak.{Peak}
-use Rattle.nsdf.specs.declared.period.Peak.TheVariants.{At, Missing}
 use Rattle.nsdf.specs.Nsdf.{window, nsdf}
 
 -- the periodicity at lags 31 to 230: lag 31 + k stands at k
@@ -34,12 +30,12 @@ abbrev pub is_near : List Float → Float → ℕ → Bool
 is_near d least k = is_peak d k && le least (at d k)
 
 -- the front of a list
-abbrev pub first : List ℕ → Peak
-first [] = Missing
-first (k ∷ ks) = At k
+abbrev pub first : List ℕ → Option ℕ
+first [] = None
+first (k ∷ ks) = Some k
 
 -- the first of the peaks at or above `least`
-unfoldable pub first_peak : List Float → Float → Peak
+unfoldable pub first_peak : List Float → Float → Option ℕ
 first_peak d least = first (keep (is_near d least) 1 198)
 
 -- a - 2 b + c
@@ -60,14 +56,14 @@ unfoldable pub refined : List Float → ℕ → Float
 refined d k = add binary64 (of_int binary64 (pos (31 + k))) (clamped (shift (at d (k - 1)) (at d k) (at d (k + 1))))
 
 -- 16,000 samples a second over the refined lag
-abbrev pub by_peak : List Float → Peak → Estimate
-by_peak d Missing = Nothing
-by_peak d (At k) = Hz (div binary64 (ratio binary64 (pos 16000) 1) (refined d k))
+abbrev pub by_peak : List Float → Option ℕ → Option Float
+by_peak d None = None
+by_peak d (Some k) = Some (div binary64 (ratio binary64 (pos 16000) 1) (refined d k))
 
 -- none where the best is below 0.6; else by the first peak that reaches 0.9 of the best
-unfoldable pub estimated : List Float → Estimate
-estimated d = cond (lt (best_peak d) (ratio binary64 (pos 6) 10)) Nothing (by_peak d (first_peak d (mul binary64 (ratio binary64 (pos 9) 10) (best_peak d))))
+unfoldable pub estimated : List Float → Option Float
+estimated d = cond (lt (best_peak d) (ratio binary64 (pos 6) 10)) None (by_peak d (first_peak d (mul binary64 (ratio binary64 (pos 9) 10) (best_peak d))))
 
 -- the pitch around a sample, from the window that is centred there
-unfoldable pub period_hz : List ℤ → ℕ → Estimate
+unfoldable pub period_hz : List ℤ → ℕ → Option Float
 period_hz xs centre = estimated (measured (window xs centre))

@@ -1,5 +1,5 @@
 // The pitch of a take around a sample, from the peaks of its periodicity.
-ghost use Rattle.std.specs.Prelude.{◌≡◌, ◌+◌, ◌-◌, ◌≤◌, ◌<◌, min, length};
+ghost use Rattle.std.specs.Prelude.{◌≡◌, ◌≤◌, ◌<◌, length};
 ghost use Rattle.lists.specs.By.{better};
 ghost use Rattle.nsdf.specs.Period.{measured, is_peak, above, best_peak, is_near, first_peak, clamped, shift, refined, estimated, period_hz};
 
@@ -17,20 +17,6 @@ const NEAR_BEST: f64 = 0.9;
 // Samples a second.
 const SAMPLE_RATE: f64 = 16000.0;
 
-// A frame's pitch estimate in Hz, or none.
-#[derive(Clone, Copy)]
-pub enum Estimate {
-    Nothing,
-    Hz(f64),
-}
-
-// Where a peak stands among the measured lags, if there is one.
-#[derive(Clone, Copy)]
-pub enum Peak {
-    Missing,
-    At(usize),
-}
-
 // The periodicity at lags 31 to 230; 0 at those that leave no pair.
 fn measured(window: &[i16]) -> [f64; 200]
     requires { length window.now ≤ 512 }
@@ -38,10 +24,8 @@ fn measured(window: &[i16]) -> [f64; 200]
 {
     let sq = sums::running_squares(window);
     let mut d = [0.0f64; 200];
-    let mut k = 0usize;
-    while k < 200 {
+    for k in 0..200 {
         d[k] = periodicity::running_nsdf(window, &sq, FIRST_LAG + k);
-        k += 1;
     }
     d
 }
@@ -54,7 +38,7 @@ fn is_peak(d: &[f64; 200], k: usize) -> bool
     d[k] > d[k - 1] && d[k] >= d[k + 1]
 }
 
-// The larger of two numbers, the first where they are equal.
+// The larger of two numbers, the first where they are equal or one is a NaN. By hand, as `max` answers otherwise there.
 fn larger(x: f64, y: f64) -> f64
     ensures { result ≡ better above x y }
 {
@@ -65,13 +49,11 @@ fn larger(x: f64, y: f64) -> f64
 fn best_peak(d: &[f64; 200]) -> f64
     ensures { result ≡ best_peak d.now }
 {
-    let mut best = -1.0 / 0.0;
-    let mut k = 1usize;
-    while k < 199 {
+    let mut best = f64::NEG_INFINITY;
+    for k in 1..199 {
         if is_peak(d, k) {
             best = larger(best, d[k]);
         }
-        k += 1;
     }
     best
 }
@@ -85,30 +67,22 @@ fn is_near(d: &[f64; 200], least: f64, k: usize) -> bool
 }
 
 // The first such peak: the shortest lag.
-fn first_peak(d: &[f64; 200], least: f64) -> Peak
+fn first_peak(d: &[f64; 200], least: f64) -> Option<usize>
     ensures { result ≡ first_peak d.now least }
 {
-    let mut k = 1usize;
-    while k < 199 {
+    for k in 1..199 {
         if is_near(d, least, k) {
-            return Peak::At(k);
+            return Some(k);
         }
-        k += 1;
     }
-    Peak::Missing
+    None
 }
 
 // x brought to -0.5 or 0.5 where it lies outside.
 fn clamped(x: f64) -> f64
     ensures { result ≡ clamped x }
 {
-    if x < -0.5 {
-        return -0.5;
-    }
-    if x > 0.5 {
-        return 0.5;
-    }
-    x
+    x.clamp(-0.5, 0.5)
 }
 
 // How far the top of the parabola through three neighbouring values lies from the middle one: 0 where it has no top.
@@ -132,54 +106,26 @@ fn refined(d: &[f64; 200], k: usize) -> f64
 }
 
 // The pitch of the first peak that reaches 0.9 of the best, rounded. None where the best is below 0.6 or there is no peak.
-fn estimated(d: &[f64; 200]) -> Estimate
+fn estimated(d: &[f64; 200]) -> Option<f64>
     ensures { result ≡ estimated d.now }
 {
     let best = best_peak(d);
     if best < MIN_PERIODICITY {
-        return Estimate::Nothing;
+        return None;
     }
-    let Peak::At(k) = first_peak(d, NEAR_BEST * best) else {
-        return Estimate::Nothing;
-    };
-    Estimate::Hz(SAMPLE_RATE / refined(d, k))
-}
-
-// Where the window around `centre` starts in a take of n samples: at most at its end.
-fn start_of(centre: usize, n: usize) -> usize
-    ensures { result ≡ min (centre - 256) n }
-{
-    if centre <= HALF_WINDOW {
-        return 0;
-    }
-    if centre - HALF_WINDOW <= n {
-        return centre - HALF_WINDOW;
-    }
-    n
-}
-
-// Where it ends, one past its last sample.
-fn end_of(centre: usize, n: usize) -> usize
-    ensures { result ≡ min (centre + 256) n }
-{
-    if n <= centre {
-        return n;
-    }
-    if n - centre <= HALF_WINDOW {
-        return n;
-    }
-    centre + HALF_WINDOW
+    let k = first_peak(d, NEAR_BEST * best)?;
+    Some(SAMPLE_RATE / refined(d, k))
 }
 
 // The pitch of a take around a sample, if it repeats well enough there, from the 512 samples centred on it, as far as the
 // take goes.
 // None where the take has too few of them for a lag to be measured.
-pub fn period_hz(samples: &[i16], centre: usize) -> Estimate
+pub fn period_hz(samples: &[i16], centre: usize) -> Option<f64>
     ensures { result ≡ period_hz samples.now centre }
 {
     let n = samples.len();
-    let start = start_of(centre, n);
-    let end = end_of(centre, n);
+    let start = centre.saturating_sub(HALF_WINDOW).min(n);
+    let end = centre.saturating_add(HALF_WINDOW).min(n);
     let d = measured(&samples[start..end]);
     estimated(&d)
 }

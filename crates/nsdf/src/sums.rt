@@ -20,20 +20,22 @@ fn squared(a: i16) -> u64
     product(a, a) as u64
 }
 
+// The samples of a window from a lag on: each makes a pair with the sample a lag before it.
+fn later(window: &[i16], lag: usize) -> &[i16]
+    ensures { result.now ≡ drop lag window.now }
+{
+    &window[lag.min(window.len())..]
+}
+
 // The products of the samples that lie a lag apart, added up: 0 where there is no pair.
 pub fn cross(window: &[i16], lag: usize) -> i64
     requires { length window.now ≤ 512 }
     ensures { result ≡ cross window.now (drop lag window.now) }
 {
-    if window.len() <= lag {
-        return 0;
-    }
-    let pairs = window.len() - lag;
+    let after = later(window, lag);
     let mut sum = 0i64;
-    let mut i = 0usize;
-    while i < pairs {
-        sum = sum + product(window[i], window[i + lag]);
-        i += 1;
+    for (i, y) in after.iter().enumerate() {
+        sum += product(window[i], *y);
     }
     sum
 }
@@ -44,15 +46,10 @@ pub fn power(window: &[i16], lag: usize) -> u64
     ensures value { result ≡ power window.now (drop lag window.now) }
     ensures upper_bound { result ≤ 2 ^ 40 }
 {
-    if window.len() <= lag {
-        return 0;
-    }
-    let pairs = window.len() - lag;
+    let after = later(window, lag);
     let mut sum = 0u64;
-    let mut i = 0usize;
-    while i < pairs {
-        sum = sum + (squared(window[i]) + squared(window[i + lag]));
-        i += 1;
+    for (i, y) in after.iter().enumerate() {
+        sum += squared(window[i]) + squared(*y);
     }
     sum
 }
@@ -64,11 +61,9 @@ pub fn running_squares(window: &[i16]) -> [u64; 513]
 {
     let mut sq = [0u64; 513];
     let mut sum = 0u64;
-    let mut i = 0usize;
-    while i < window.len() {
-        sum = sum + squared(window[i]);
+    for (i, x) in window.iter().enumerate() {
+        sum += squared(*x);
         sq[i + 1] = sum;
-        i += 1;
     }
     sq
 }

@@ -1,63 +1,85 @@
--- Merging, whatever makes two frames one: a push onto the kept frames in the front of a list, the walk over the frames that a list holds, and what is left:
+-- Merging, whatever makes two frames one: a push onto the kept frames, the walk over the frames that a list holds, and what is left:
 -- it rises strictly, no two neighbours in it are one, and what holds of every frame that is merged holds of every one that is kept. Assumes nothing.
 use Prim.Native.Nat.{ℕ, ◌+◌, ◌-◌, ◌<◌, ◌≤◌}
 use native.Mathlib.Omega.{arith}
 use native.Mathlib.Nat.{sub-zero}
+use native.Mathlib.Numerals.{unary_clauses}
 use mathlib.Core.Path.{◌≡◌, refl, sym, ap, subst, ◌∙◌}
 use mathlib.Core.Bool.{Bool, true, false, cond}
 use mathlib.Core.List.{List, [], ◌∷◌, ◌++◌, reverse, reverse-cons, append_assoc}
 use mathlib.Core.Logic.{◌⊎◌, ⊎_elim}
-use lib.ListN.{length, get_or, set, length-set}
-use lib.Seq.{get_or-set_same}
-use Rattle.lists.specs.Results.{Front, keep}
+use lib.ListN.{length, take}
+use Rattle.std.proofs.lemmas.List.{length-reverse, reverse-append, reverse-reverse}
+use Rattle.std.specs.Prelude.{None, Some, slice_get}
+use Rattle.lists.specs.Results.{keep}
 use Rattle.lists.specs.By.{Each}
 use Rattle.lists.specs.Sorted.{StrictlyRises}
 use Rattle.lists.specs.Marks.{member, in_order}
-use Rattle.lists.specs.Stack.{stack, Kept, Falls}
+use Rattle.lists.specs.Stack.{Falls}
 use Rattle.lists.proofs.Fill.{keep_step, keep_over}
 use Rattle.lists.proofs.Entries.{each_append}
-use Rattle.lists.proofs.Stacks.{stack_pop, stack_length, kept_push, kept_front, falls_under, falls_few, falls_rise}
+use Rattle.lists.proofs.Stacks.{falls_under, falls_few, falls_rise}
 use Rattle.nuclei.specs.Merging.{push_by, merge_by, merged, Apart}
 
 -- which stays is one of the two
 abbrev pub Picks : (ℕ → ℕ → ℕ) → Type 0
 Picks left = (a b : ℕ) → (left a b ≡ a) ⊎ (left a b ≡ b)
 
--- ---- the frame before the one that is pushed
-module _ (l : List ℕ) (k x : ℕ) (h : k ≡ 0 → ⊥) (f : Falls x (stack l k)) where
-  popped : Falls x (get_or l (k - 1) 0 ∷ stack l (k - 1))
-  popped = rw (stack_pop l k h) at f
+-- ---- the last of the kept frames
+last_split : (l : List ℕ) (prev : ℕ) → slice_get l (length l - 1) ≡ Some prev → l ≡ take (length l - 1) l ++ (prev ∷ [])
+last_split [] prev e = absurd (cc)
+last_split (x ∷ []) prev e = cc
+last_split (x ∷ y ∷ l) prev e = simp unary_clauses (ap (λ (z : List ℕ). x ∷ z) (simp unary_clauses at (last_split (y ∷ l) prev (simp unary_clauses (simp unary_clauses at e)))))
 
-  pub falls_prev : get_or l (k - 1) 0 < x
-  falls_prev = popped.0
+-- where there is none, none is kept
+none_kept : (l : List ℕ) → slice_get l (length l - 1) ≡ None → l ≡ []
+none_kept [] e = refl
+none_kept (x ∷ l) e = absurd (go x l (simp unary_clauses at e))
+  where
+    go : (x : ℕ) (l : List ℕ) → slice_get (x ∷ l) (length l) ≡ None → ⊥
+    go x [] e = cc
+    go x (y ∷ l) e = go y l e
 
-  module _ (left : ℕ → ℕ → ℕ) (picks : Picks left) where
-    pub falls_left : Falls (left (get_or l (k - 1) 0) x) (stack l (k - 1))
-    falls_left =
+reverse_snoc : (l : List ℕ) (x : ℕ) → reverse (l ++ (x ∷ [])) ≡ x ∷ reverse l
+reverse_snoc l x = reverse-append l (x ∷ [])
+
+-- the others are `rest`
+module _ (l rest : List ℕ) (prev : ℕ) (g : slice_get l (length l - 1) ≡ Some prev) (q : rest ≡ take (length l - 1) l) where
+  pub last_first : reverse l ≡ prev ∷ reverse rest
+  last_first = rw q (ap reverse (last_split l prev g) ∙ reverse_snoc (take (length l - 1) l) prev)
+
+  pub rest_fewer : length rest < length l
+  rest_fewer = omega (arith, ap length last_first, length-reverse l, length-reverse rest)
+
+  module _ (x : ℕ) (f : Falls x (reverse l)) where
+    popped : Falls x (prev ∷ reverse rest)
+    popped = rw last_first at f
+
+    pub falls_prev : prev < x
+    falls_prev = popped.0
+
+    pub falls_left : (y : ℕ) → (y ≡ prev) ⊎ (y ≡ x) → Falls y (reverse rest)
+    falls_left y =
         ⊎_elim
         (λ e. rw e popped.1)
-        (λ e. rw e (falls_under (get_or l (k - 1) 0) x (stack l (k - 1)) (omega (arith, popped.0)) popped.1))
-        (picks (get_or l (k - 1) 0) x)
+        (λ e. rw e (falls_under prev x (reverse rest) (omega (arith, popped.0)) popped.1))
 
-    pub left_within : (n : ℕ) → x < n → left (get_or l (k - 1) 0) x < n
-    left_within n i = ⊎_elim (λ e. omega (arith, e, falls_prev)) (λ e. omega (arith, e)) (picks (get_or l (k - 1) 0) x)
+    pub left_within : (y : ℕ) → (y ≡ prev) ⊎ (y ≡ x) → y ≤ x
+    left_within y = ⊎_elim (λ e. omega (arith, e, falls_prev)) (λ e. omega (arith, e))
 
--- ---- a push
-module _ (one : ℕ → ℕ → Bool) (left : ℕ → ℕ → ℕ) (l : List ℕ) (x : ℕ) where
-  pub merge_none : (k : ℕ) → k ≡ 0 → 0 < length l → Kept (push_by one left (stack l k) x) (set l 0 x) 1
-  unfolding push_by stack
-  merge_none k e h = rw e (record { within = rw length-set h; count = refl; entries = rw (get_or-set_same l 0 x 0 h) })
-
-  module _ (k : ℕ) (h : k ≡ 0 → ⊥) where
-    pub merge_pop : {new : List ℕ} {r : ℕ} → one (get_or l (k - 1) 0) x ≡ true → Kept (push_by one left (stack l (k - 1)) (left (get_or l (k - 1) 0) x)) new r → Kept (push_by one left (stack l k) x) new r
+  -- ---- a push
+  module _ (one : ℕ → ℕ → Bool) (left : ℕ → ℕ → ℕ) (x : ℕ) where
+    pub merge_pop : (new : List ℕ) {y : ℕ} → one prev x ≡ true → y ≡ left prev x → reverse new ≡ push_by one left (reverse rest) y → reverse new ≡ push_by one left (reverse l) x
     unfolding push_by
-    merge_pop e c = rw (stack_pop l k h, push_by, e) c
+    merge_pop new e p c = rw (last_first, push_by, e, ← p) c
 
-    pub merge_push : k < length l → one (get_or l (k - 1) 0) x ≡ false → Kept (push_by one left (stack l k) x) (set l k x) (k + 1)
+    pub merge_push : one prev x ≡ false → reverse (l ++ (x ∷ [])) ≡ push_by one left (reverse l) x
     unfolding push_by
-    merge_push i e =
-        let q : x ∷ stack l k ≡ push_by one left (stack l k) x = rw (stack_pop l k h) (rw (push_by, e)) in
-        subst (λ (z : List ℕ). Kept z (set l k x) (k + 1)) q (kept_push l k x i)
+    merge_push e = reverse_snoc l x ∙ rw (last_first, push_by, e)
+
+pub merge_none : (one : ℕ → ℕ → Bool) (left : ℕ → ℕ → ℕ) (l : List ℕ) (x : ℕ) → slice_get l (length l - 1) ≡ None → reverse (l ++ (x ∷ [])) ≡ push_by one left (reverse l) x
+unfolding push_by
+merge_none one left l x e = rw (none_kept l e)
 
 -- ---- no two neighbours that are kept are one
 module _ (one : ℕ → ℕ → Bool) (left : ℕ → ℕ → ℕ) where
@@ -153,37 +175,32 @@ module _ (one : ℕ → ℕ → Bool) (left : ℕ → ℕ → ℕ) (picks : Pick
 
   -- ---- the walk over the frames below n that a list holds
   module _ (cs : List ℕ) (n : ℕ) where
-    -- the first k entries of `kept` are what is kept of the frames below i
-    pub record Merging (kept : List ℕ) (k i : ℕ) : Type 0 where
-      pub within : i ≤ n
-      pub order : Falls i (stack kept k)
-      pub same : merge_by one left (stack kept k) (keep (member cs) i (n - i)) ≡ merge_by one left [] (in_order cs n)
+    -- `kept` is what is kept of the frames below i
+    pub record Merging (kept : List ℕ) (i : ℕ) : Type 0 where
+      pub order : Falls i (reverse kept)
+      pub same : merge_by one left (reverse kept) (keep (member cs) i (n - i)) ≡ merge_by one left [] (in_order cs n)
 
-    pub merging_start : (kept : List ℕ) → Merging kept 0 0
-    unfolding stack in_order
-    merging_start kept = record { within = omega arith; order = tt; same = rw sub-zero }
+    pub merging_start : Merging [] 0
+    unfolding in_order
+    merging_start = record { order = tt; same = rw sub-zero }
 
-    module _ {kept : List ℕ} {k i : ℕ} (m : Merging kept k i) where
-      pub merging_few : k ≤ i
-      merging_few = omega (arith, falls_few i (stack kept k) m.order, stack_length kept k)
+    module _ {kept : List ℕ} {i : ℕ} (m : Merging kept i) where
+      pub merging_few : length kept ≤ i
+      merging_few = omega (arith, falls_few i (reverse kept) m.order, length-reverse kept)
 
-      pub merging_not : i < n → member cs i ≡ false → Merging kept k (i + 1)
+      pub merging_not : i < n → member cs i ≡ false → Merging kept (i + 1)
       merging_not h e = record {
-        within = omega arith;
-        order = falls_under i (i + 1) (stack kept k) (omega arith) m.order;
+        order = falls_under i (i + 1) (reverse kept) (omega arith) m.order;
         same = rw (keep_step (member cs) i n h, e) at m.same;
       }
 
-      pub merging_one : i < n → member cs i ≡ true → {kept' : List ℕ} {k' : ℕ} → Kept (push_by one left (stack kept k) i) kept' k' → Merging kept' k' (i + 1)
+      pub merging_one : i < n → member cs i ≡ true → {kept' : List ℕ} → reverse kept' ≡ push_by one left (reverse kept) i → Merging kept' (i + 1)
       unfolding merge_by
-      merging_one h e {kept'} {k'} q = record {
-        within = omega arith;
-        order = rw q.entries (push_falls (stack kept k) i (i + 1) (omega arith) m.order);
-        same = rw q.entries (rw (keep_step (member cs) i n h, e) at m.same);
+      merging_one h e {kept'} q = record {
+        order = rw q (push_falls (reverse kept) i (i + 1) (omega arith) m.order);
+        same = rw q (rw (keep_step (member cs) i n h, e) at m.same);
       }
 
-      pub merging_end : n ≤ i → k ≤ length kept → Front (merged one left (in_order cs n)) kept k
+      pub merging_end : n ≤ i → kept ≡ merged one left (in_order cs n)
       unfolding merged merge_by
-      merging_end h w =
-          let e : stack kept k ≡ merge_by one left [] (in_order cs n) = rw (keep_over (member cs) i n h) at m.same in
-          kept_front (record { within = w; count = sym (stack_length kept k) ∙ ap length e; entries = e })
+      merging_end h = sym (reverse-reverse kept) ∙ ap reverse (rw (keep_over (member cs) i n h) at m.same)

@@ -14,7 +14,8 @@ use Rattle.lists.proofs.Entries.{each_map, each_kept, each_of_map}
 use Rattle.lists.proofs.Members.{each_keep}
 use Rattle.lists.proofs.Walks.{some_at}
 use Rattle.lists.specs.Grouped.{attach, grouped}
-use Rattle.runs.specs.Runs.{Span, voiced, voiced_frames, sole, close, joined, voiced_runs, long, span, long_runs}
+use Rattle.runs.specs.declared.voiced.Span.{Span}
+use Rattle.runs.specs.Runs.{voiced, voiced_frames, sole, close, joined, voiced_runs, long, span, long_runs}
 use Rattle.runs.specs.declared.voiced.Run.{Run}
 use Rattle.nuclei.specs.Peaks.{pitch_near}
 

@@ -23,13 +23,12 @@ use Rattle.smooth.proofs.Averages.{length_levels}
 use Rattle.smooth.proofs.Best.{middle_within}
 use Rattle.region.specs.Percentile.{floor_of}
 use Rattle.region.specs.declared.Settings.{Settings}
-use Rattle.region.specs.declared.Floor.{Floor}
-use Rattle.region.specs.declared.Floor.TheVariants as floors
-use Rattle.runs.specs.Runs.{Span, long_runs}
+use Rattle.std.specs.Prelude.{Option, None, Some}
+use Rattle.runs.specs.declared.voiced.Span.{Span}
+use Rattle.runs.specs.Runs.{long_runs}
 use Rattle.runs.specs.Syllables.{syllable_runs}
 use Rattle.runs.specs.Near.{run_of, Answers}
 use Rattle.runs.specs.declared.near.Found.{Found}
-use Rattle.runs.specs.declared.near.Found.TheVariants.{At, Nothing}
 use Rattle.runs.proofs.Spacing.{spaced_within, long_spaced}
 use Rattle.runs.proofs.Nearest.{run_of_answers, found_each}
 use Rattle.region.specs.declared.Bounds.{Bounds}
@@ -41,16 +40,16 @@ use Rattle.nuclei.proofs.Merge.{merged_each, merged_rises, merged_apart}
 use Rattle.nuclei.proofs.Choice.{louder_picks}
 use Rattle.nuclei.proofs.Pitched.{PitchedRun, long_pitched}
 
-clamp_within : (first last i : ℕ) → first ≤ last → (first ≤ clamp_to first last i) × (clamp_to first last i ≤ last)
-clamp_within first last i h = go (ltb i first) refl
+clamp_within : (r : Span) (i : ℕ) → r.first ≤ r.last → (r.first ≤ clamp_to r i) × (clamp_to r i ≤ r.last)
+clamp_within r i h = go (ltb i r.first) refl
   where
-    go : (c : Bool) → ltb i first ≡ c → (first ≤ cond c first (cond (ltb last i) last i)) × (cond c first (cond (ltb last i) last i) ≤ last)
+    go : (c : Bool) → ltb i r.first ≡ c → (r.first ≤ cond c r.first (cond (ltb r.last i) r.last i)) × (cond c r.first (cond (ltb r.last i) r.last i) ≤ r.last)
     go true e = (omega arith, h)
-    go false e = pick (ltb last i) refl
+    go false e = pick (ltb r.last i) refl
       where
-        pick : (d : Bool) → ltb last i ≡ d → (first ≤ cond d last i) × (cond d last i ≤ last)
+        pick : (d : Bool) → ltb r.last i ≡ d → (r.first ≤ cond d r.last i) × (cond d r.last i ≤ r.last)
         pick true q = (h, omega arith)
-        pick false q = (ltb-false i first e, ltb-false last i q)
+        pick false q = (ltb-false i r.first e, ltb-false r.last i q)
 
 -- ---- from the candidates to the nuclei
 module _ (s pitch : List Float) (rs syllables : List Span) (b : Bounds) (p : Settings) where
@@ -113,11 +112,11 @@ module _ (s pitch : List Float) (rs syllables : List Span) (b : Bounds) (p : Set
   unfolding voiced_peak onto_run
   onto_speech x e = go (run_of rs x)
     where
-      go : (f : Found) → speech_by_level s b (moved s b f x) ≡ true
-      go Nothing = (and_cases (pitch_near pitch x) (speech_by_level s b x) e).1
-      go (At k first last) = pick (speech_by_level s b (clamp_to first last x)) refl
+      go : (f : Option Found) → speech_by_level s b (moved s b f x) ≡ true
+      go None = (and_cases (pitch_near pitch x) (speech_by_level s b x) e).1
+      go (Some f) = pick (speech_by_level s b (clamp_to f.run x)) refl
         where
-          pick : (c : Bool) → speech_by_level s b (clamp_to first last x) ≡ c → speech_by_level s b (cond c (clamp_to first last x) x) ≡ true
+          pick : (c : Bool) → speech_by_level s b (clamp_to f.run x) ≡ c → speech_by_level s b (cond c (clamp_to f.run x) x) ≡ true
           pick true q = q
           pick false q = (and_cases (pitch_near pitch x) (speech_by_level s b x) e).1
 
@@ -161,15 +160,15 @@ module _ (s pitch : List Float) (syllables : List Span) (b : Bounds) (p : Settin
       near : pitch_near pitch x ≡ true
       near = (and_cases (pitch_near pitch x) (speech_by_level s b x) e).0
 
-      go : (f : Found) → Answers x (long_runs pitch) f → pitch_near pitch (moved s b f x) ≡ true
-      go Nothing a = near
-      go (At k first last) a = pick (speech_by_level s b (clamp_to first last x))
+      go : (f : Option Found) → Answers x (long_runs pitch) f → pitch_near pitch (moved s b f x) ≡ true
+      go None a = near
+      go (Some f) a = pick (speech_by_level s b (clamp_to f.run x))
         where
-          run : Voiced (record { first = first; last = last })
-          run = found_each Voiced (long_runs pitch) x k first last long_voiced a
+          run : Voiced f.run
+          run = found_each Voiced (long_runs pitch) x f long_voiced a
 
-          pick : (c : Bool) → pitch_near pitch (cond c (clamp_to first last x) x) ≡ true
-          pick true = run.1 (clamp_to first last x) (clamp_within first last x run.0).0 (clamp_within first last x run.0).1
+          pick : (c : Bool) → pitch_near pitch (cond c (clamp_to f.run x) x) ≡ true
+          pick true = run.1 (clamp_to f.run x) (clamp_within f.run x run.0).0 (clamp_within f.run x run.0).1
           pick false = near
 
   top_pitched : (r : Span) → Voiced r → has_top s b p.dip r ≡ true → pitch_near pitch (top_of s b r) ≡ true
@@ -186,9 +185,9 @@ module _ (s pitch : List Float) (syllables : List Span) (b : Bounds) (p : Settin
       (candidates_each s pitch b (λ x. pitch_near pitch x ≡ true) (long_runs pitch) p.dip onto_pitched Voiced long_voiced top_pitched)
 
 -- ---- the nuclei of a take
-pub over_floor_lem : {A : Type 0} (P : List A → Type 0) (r : Floor) (over : Float → List A) → P [] → ((x : Float) → P (over x)) → P (over_floor r over)
-over_floor_lem P floors.Nothing over n f = n
-over_floor_lem P (floors.At x) over n f = f x
+pub over_floor_lem : {A : Type 0} (P : List A → Type 0) (r : Option Float) (over : Float → List A) → P [] → ((x : Float) → P (over x)) → P (over_floor r over)
+over_floor_lem P None over n f = n
+over_floor_lem P (Some x) over n f = f x
 
 pub frames_back : (s : List Float) (floor : Float) (fs : List ℕ) → frames_of (map (nucleus_at s floor) fs) ≡ fs
 frames_back s floor [] = refl

@@ -19,10 +19,10 @@ use Rattle.lists.proofs.Entries.{each_map, each_append, each_at}
 use Rattle.lists.proofs.Members.{member_append}
 use Rattle.smooth.specs.declared.extrema.Extremum.TheVariants.{Max}
 use Rattle.smooth.proofs.Best.{middle_within}
-use Rattle.runs.specs.Runs.{Span}
-use Rattle.runs.specs.Near.{distance, run_of, found, number_of, Answers}
+use Rattle.runs.specs.declared.voiced.Span.{Span}
+use Rattle.runs.specs.Near.{distance, run_of, number_of, Answers}
 use Rattle.runs.specs.declared.near.Found.{Found}
-use Rattle.runs.specs.declared.near.Found.TheVariants.{At, Nothing}
+use Rattle.std.specs.Prelude.{Option, None, Some, is_some}
 use Rattle.runs.proofs.Nearest.{run_of_answers}
 use Rattle.region.specs.declared.Bounds.{Bounds}
 use Rattle.nuclei.specs.Peaks.{voiced_peaks}
@@ -43,9 +43,9 @@ module _ (s : List Float) (b : Bounds) (dip : Float) (rs : List Span) where
 held_append : (rs : List Span) (xs ys : List ℕ) → runs_held rs (xs ++ ys) ≡ runs_held rs xs ++ runs_held rs ys
 unfolding runs_held
 held_append rs xs ys =
-    ap (λ (l : List Found). map number_of (filter found l)) (map-append (run_of rs) xs ys)
-    ∙ ap (map number_of) (filter_append found (map (run_of rs) xs) (map (run_of rs) ys))
-    ∙ map-append number_of (filter found (map (run_of rs) xs)) (filter found (map (run_of rs) ys))
+    ap (λ (l : List (Option Found)). map number_of (filter is_some l)) (map-append (run_of rs) xs ys)
+    ∙ ap (map number_of) (filter_append is_some (map (run_of rs) xs) (map (run_of rs) ys))
+    ∙ map-append number_of (filter is_some (map (run_of rs) xs)) (filter is_some (map (run_of rs) ys))
 
 -- numbers below k do not hold k
 low_member : (k : ℕ) (xs : List ℕ) → Each (λ j. j < k) xs → member xs k ≡ false
@@ -59,18 +59,18 @@ module _ (s : List Float) (b : Bounds) (dip : Float) (w : b.end ≤ length s) (r
   unfolding runs_held filter
   frame_low done q later t e z = go (run_of rs t) (run_of_answers t rs)
     where
-      go : (f : Found) → Answers t rs f → Each (λ j. j < length done + 1) (map number_of (cons_if (found f) f []))
-      go Nothing a = tt
-      go (At k first last) a = (side (leb k (length done)) refl, tt)
+      go : (f : Option Found) → Answers t rs f → Each (λ j. j < length done + 1) (map number_of (cons_if (is_some f) f []))
+      go None a = tt
+      go (Some f) a = (side (leb f.number (length done)) refl, tt)
         where
-          side : (c : Bool) → leb k (length done) ≡ c → k < length done + 1
-          side true h = omega (arith, leb-true k (length done) h)
+          side : (c : Bool) → leb f.number (length done) ≡ c → f.number < length done + 1
+          side true h = omega (arith, leb-true f.number (length done) h)
           side false h =
-              let r : Span = record { first = first; last = last } in
-              let i : length done < length a.earlier = omega (arith, leb-false k (length done) h, a.index) in
-              let f : distance r t < distance (get_or a.earlier (length done) q) t = each_at (λ u. distance r t < distance u t) a.earlier q a.farther (length done) i in
+              let r = f.run in
+              let i : length done < length a.earlier = omega (arith, leb-false f.number (length done) h, a.index) in
+              let d : distance r t < distance (get_or a.earlier (length done) q) t = each_at (λ u. distance r t < distance u t) a.earlier q a.farther (length done) i in
               let g : get_or a.earlier (length done) q ≡ q = sym (get_or-append a.earlier (r ∷ a.later) q (length done) i) ∙ ap (λ (l : List Span). get_or l (length done) q) (sym a.split ∙ e) ∙ get_or-append_seam done q later q in
-              absurd (omega (arith, subst (λ (u : Span). distance r t < distance u t) g f, z))
+              absurd (omega (arith, subst (λ (u : Span). distance r t < distance u t) g d, z))
 
   top_inside : (q : Span) → has_top s b dip q ≡ true → distance q (top_of s b q) ≡ 0
   unfolding has_top top_of

@@ -1,5 +1,5 @@
 -- The nuclei of a take. Definitions only.
-use Rattle.std.specs.Prelude.{ℕ, ◌-◌, Bool, ◌&&◌, ◌||◌, not, cond, List, [], ◌++◌, map, length, ltb, Float}
+use Rattle.std.specs.Prelude.{ℕ, ◌-◌, Bool, ◌&&◌, ◌||◌, not, cond, List, [], ◌++◌, map, length, ltb, Float, Option, None, Some}
 use Rattle.std.specs.Float.{binary32}
 use Rattle.std.specs.Float.Ieee.{le, sub}
 use Rattle.lists.specs.Results.{Listed}
@@ -10,9 +10,8 @@ use Rattle.smooth.specs.Extrema.{shallow}
 use Rattle.region.specs.Percentile.{floor_of}
 use Rattle.region.specs.Speech.{bounds_over}
 use Rattle.region.specs.declared.Settings.{Settings}
-use Rattle.region.specs.declared.Floor.{Floor}
-use Rattle.region.specs.declared.Floor.TheVariants.{Nothing, At}
-use Rattle.runs.specs.Runs.{Span, long_runs}
+use Rattle.runs.specs.declared.voiced.Span.{Span}
+use Rattle.runs.specs.Runs.{long_runs}
 use Rattle.runs.specs.Syllables.{syllable_runs}
 use Rattle.runs.specs.Near.{separate}
 use Rattle.region.specs.declared.Bounds.{Bounds}
@@ -64,9 +63,9 @@ unfoldable pub nuclei_over : List Float → List Float → List Span → List Sp
 nuclei_over s pitch rs syllables b floor p = map (nucleus_at s floor) (nucleus_frames s pitch rs syllables b p)
 
 -- what there is over a floor; nothing where there is none
-abbrev pub over_floor : {A : Type 0} → Floor → (Float → List A) → List A
-over_floor Nothing over = []
-over_floor (At x) over = over x
+abbrev pub over_floor : {A : Type 0} → Option Float → (Float → List A) → List A
+over_floor None over = []
+over_floor (Some x) over = over x
 
 -- the nuclei of a take in the region start .. end
 unfoldable pub nuclei_of : List Float → List Float → ℕ → ℕ → Settings → List Nucleus

@@ -1,14 +1,14 @@
 -- The voiced peaks of the level in the region, each on the voiced run that it belongs to. Definitions only.
-use Rattle.std.specs.Prelude.{ℕ, ◌+◌, ◌-◌, min, Bool, ◌&&◌, cond, List, map, length, ltb, Float}
+use Rattle.std.specs.Prelude.{ℕ, ◌+◌, ◌-◌, min, Bool, ◌&&◌, cond, List, map, length, ltb, Float, Option, None, Some}
 use Rattle.std.specs.Float.Ieee.{le}
 use Rattle.lists.specs.Results.{filter}
 use Rattle.lists.specs.Frames.{at, some_frame}
 use Rattle.smooth.specs.Extrema.{inside, local_extrema}
 use Rattle.smooth.specs.declared.extrema.Extremum.TheVariants.{Max}
-use Rattle.runs.specs.Runs.{Span, voiced}
+use Rattle.runs.specs.declared.voiced.Span.{Span}
+use Rattle.runs.specs.Runs.{voiced}
 use Rattle.runs.specs.Near.{run_of}
 use Rattle.runs.specs.declared.near.Found.{Found}
-use Rattle.runs.specs.declared.near.Found.TheVariants.{At, Nothing}
 use Rattle.region.specs.declared.Bounds.{Bounds}
 
 -- some frame of the n that there are passes and is within 2 of frame i
@@ -27,14 +27,14 @@ speech_by_level s b i = inside b.start b.end i && le b.threshold (at s i)
 unfoldable pub voiced_peak : List Float → List Float → Bounds → ℕ → Bool
 voiced_peak s pitch b i = pitch_near pitch i && speech_by_level s b i
 
--- the frame from first to last that is nearest to frame i
-abbrev pub clamp_to : ℕ → ℕ → ℕ → ℕ
-clamp_to first last i = cond (ltb i first) first (cond (ltb last i) last i)
+-- the frame of a run that is nearest to frame i
+abbrev pub clamp_to : Span → ℕ → ℕ
+clamp_to r i = cond (ltb i r.first) r.first (cond (ltb r.last i) r.last i)
 
 -- frame i moved onto the run that is found, if it is speech there
-abbrev pub moved : List Float → Bounds → Found → ℕ → ℕ
-moved s b (At k first last) i = cond (speech_by_level s b (clamp_to first last i)) (clamp_to first last i) i
-moved s b Nothing i = i
+abbrev pub moved : List Float → Bounds → Option Found → ℕ → ℕ
+moved s b (Some f) i = cond (speech_by_level s b (clamp_to f.run i)) (clamp_to f.run i) i
+moved s b None i = i
 
 -- frame i moved onto its run
 unfoldable pub onto_run : List Float → Bounds → List Span → ℕ → ℕ

@@ -1,20 +1,20 @@
 -- The tops of the voiced runs that hold no peak. Definitions only.
-use Rattle.std.specs.Prelude.{ℕ, ◌+◌, ◌-◌, min, max, Bool, ◌&&◌, not, List, [], ◌∷◌, map, length, ltb, Float}
+use Rattle.std.specs.Prelude.{ℕ, ◌+◌, ◌-◌, min, max, Bool, ◌&&◌, not, List, [], ◌∷◌, map, length, ltb, Float, is_some}
 use Rattle.std.specs.Float.{binary32}
 use Rattle.std.specs.Float.Ieee.{lt, add}
 use Rattle.lists.specs.Results.{cons_if, filter}
 use Rattle.lists.specs.Marks.{member}
 use Rattle.lists.specs.Frames.{at}
 use Rattle.smooth.specs.Extrema.{argmax_middle}
-use Rattle.runs.specs.Runs.{Span}
-use Rattle.runs.specs.Near.{run_of, found, number_of}
+use Rattle.runs.specs.declared.voiced.Span.{Span}
+use Rattle.runs.specs.Near.{run_of, number_of}
 use Rattle.region.specs.declared.Bounds.{Bounds}
 use Rattle.nuclei.specs.Peaks.{some_near, speech_by_level}
 
 -- ---- the runs that hold no peak
 -- the numbers of the runs that frames belong to
 unfoldable pub runs_held : List Span → List ℕ → List ℕ
-runs_held rs frames = map number_of (filter found (map (run_of rs) frames))
+runs_held rs frames = map number_of (filter is_some (map (run_of rs) frames))
 
 -- of runs that are numbered from k on, those whose number is not in a list
 unfoldable pub unheld_from : List ℕ → ℕ → List Span → List Span

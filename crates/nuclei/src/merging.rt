@@ -1,27 +1,28 @@
 // Candidates that are one nucleus, merged.
-ghost use Rattle.std.specs.Prelude.{◌≡◌, ◌≤◌, ◌<◌, length, take};
-ghost use Rattle.lists.specs.Results.{Front};
+ghost use Rattle.std.specs.Prelude.{◌≡◌, ◌≤◌, ◌<◌, ◌⊎◌, ℕ, reverse, length};
+ghost use Rattle.arrayvec.specs.ArrayVec.{array_vec_len};
 ghost use Rattle.lists.specs.Marks.{in_order};
-ghost use Rattle.lists.specs.Stack.{stack, Kept, Falls};
-ghost use Rattle.runs.specs.Runs.{spans, SpansLent};
+ghost use Rattle.lists.specs.Stack.{Falls};
 ghost use Rattle.nuclei.specs.Merging.{push_by, merged};
 ghost use Rattle.nuclei.specs.Nuclei.{one_nucleus, louder};
 
+use arrayvec::ArrayVec;
 use lists::marks::marks;
 use region::Settings;
 use runs::near::in_separate_runs;
+use runs::voiced::Span;
 use smooth::extrema::shallow_valley;
 
 // Whether two frames, the earlier first, are one nucleus: closer than the gap, or with no valley between them and not in
 // two different syllable runs.
-fn one_nucleus(s: &[f32], heads: &[u32], tails: &[u32], p: Settings, prev: u32, x: u32) -> bool
-    requires { (prev < x) × (x < length s.now) × SpansLent heads.now tails.now }
-    ensures { result ≡ one_nucleus s.now (spans heads.now tails.now) p prev x }
+fn one_nucleus(s: &[f32], syllables: &[Span], p: Settings, prev: u32, x: u32) -> bool
+    requires { (prev < x) × (x < length s.now) × (length syllables.now ≤ 2048) }
+    ensures { result ≡ one_nucleus s.now syllables.now p prev x }
 {
     if x - prev < p.gap {
         return true;
     }
-    shallow_valley(s, prev as usize, x as usize, p.dip) && !in_separate_runs(heads, tails, prev, x)
+    shallow_valley(s, prev as usize, x as usize, p.dip) && !in_separate_runs(syllables, prev, x)
 }
 
 // The louder of two frames, the earlier on a tie.
@@ -36,59 +37,52 @@ pub fn louder(s: &[f32], prev: u32, x: u32) -> u32
     }
 }
 
-// Puts a frame that is later than the k kept ones onto them, and returns how many are kept then. Where it is one nucleus
-// with the last of them, the louder of the two is put onto those before in its turn.
-fn push_merging(
-    s: &[f32],
-    heads: &[u32],
-    tails: &[u32],
-    p: Settings,
-    kept: &mut [u32],
-    k: usize,
+// Puts a frame that is later than the kept ones onto them. Where it is one with the last of them, that one goes, and
+// which of the two stays is put onto those before in its turn. What the closures answer of such pairs decides.
+// It calls itself and has no loop: a form that was asked for by name (docs/DECISIONS.md).
+pub fn push_merging<F: Fn(u32, u32) -> bool, G: Fn(u32, u32) -> u32>(
+    are_one: &F,
+    stays: &G,
+    kept: &mut ArrayVec<u32, 2048>,
     x: u32,
-) -> usize
-    requires { (k < length kept.old) × (x < length s.now) × Falls x (stack kept.old k)
-        × SpansLent heads.now tails.now }
-    ensures { Kept (push_by (one_nucleus s.now (spans heads.now tails.now) p)
-        (louder s.now) (stack kept.old k) x) kept.new result }
+)
+    requires room { array_vec_len kept.old < 2048 }
+    requires later { Falls x (reverse kept.old.items) }
+    requires asks { (a b : ℕ) → a < b → b ≤ x → F.pre are_one.now a b × G.pre stays.now a b }
+    requires picks { (a b r : ℕ) → a < b → b ≤ x → G.post stays.now a b r → (r ≡ a) ⊎ (r ≡ b) }
+    ensures { (one : _) (left : _) → ((a b : ℕ) → a < b → b ≤ x →
+        ((r : _) → F.post are_one.now a b r → r ≡ one a b) × ((r : _) → G.post stays.now a b r → r ≡ left a b)) →
+        reverse kept.new.items ≡ push_by one left (reverse kept.old.items) x }
 {
-    if k == 0 {
-        kept[0] = x;
-        return 1;
-    }
-    let prev = kept[k - 1];
-    if one_nucleus(s, heads, tails, p, prev, x) {
-        let left = louder(s, prev, x);
-        push_merging(s, heads, tails, p, kept, k - 1, left)
+    let Some(prev) = kept.last().copied() else {
+        kept.push(x);
+        return;
+    };
+    if are_one(prev, x) {
+        kept.pop();
+        push_merging(are_one, stays, kept, stays(prev, x));
     } else {
-        kept[k] = x;
-        k + 1
+        kept.push(x);
     }
 }
 
-// Merges those of the first c entries of cands that are one nucleus, writes what is left, in order, to the front of cands,
-// and returns how many they are.
-pub fn merged(
-    s: &[f32],
-    heads: &[u32],
-    tails: &[u32],
-    p: Settings,
-    c: usize,
-    cands: &mut [u32],
-) -> usize
-    requires { (length s.now ≤ 2048) × (length s.now ≤ length cands.old) × (c ≤ length cands.old)
-        × SpansLent heads.now tails.now }
-    ensures { Front (merged (one_nucleus s.now (spans heads.now tails.now) p)
-        (louder s.now) (in_order (take c cands.old) (length s.now))) cands.new result }
+// The candidates, in order, with those that are one nucleus merged.
+pub fn merged(s: &[f32], syllables: &[Span], p: Settings, cands: &[u32]) -> ArrayVec<u32, 2048>
+    requires { (length s.now ≤ 2048) × (length syllables.now ≤ 2048) }
+    ensures { result.items ≡ merged (one_nucleus s.now syllables.now p) (louder s.now)
+        (in_order cands.now (length s.now)) }
 {
-    let m = marks(&cands[..c]);
-    let mut k: usize = 0;
-    let mut i: usize = 0;
-    while i < s.len() {
-        if m[i] == 1 {
-            k = push_merging(s, heads, tails, p, cands, k, i as u32);
+    let is_cand = marks(cands);
+    let mut kept = ArrayVec::new();
+    for i in 0..s.len() {
+        if is_cand[i] {
+            push_merging(
+                &|prev, x| one_nucleus(s, syllables, p, prev, x),
+                &|prev, x| louder(s, prev, x),
+                &mut kept,
+                i as u32,
+            );
         }
-        i += 1;
     }
-    k
+    kept
 }

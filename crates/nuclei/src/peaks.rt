@@ -1,58 +1,59 @@
 // Peaks of the level with a pitch near them.
-ghost use Rattle.std.specs.Prelude.{◌≡◌, ◌≤◌, length};
-ghost use Rattle.lists.specs.Results.{Listed};
-ghost use Rattle.runs.specs.Runs.{spans, SpansLent};
+ghost use Rattle.std.specs.Prelude.{◌≡◌, ◌++◌, ◌+◌, ◌≤◌, length};
+ghost use Rattle.arrayvec.specs.ArrayVec.{array_vec_len};
 ghost use Rattle.nuclei.specs.Peaks.{pitch_near, speech_by_level, voiced_peak, clamp_to, onto_run, peaks_onto};
 
+use arrayvec::ArrayVec;
 use region::Bounds;
-use runs::near::{Found, near_end, near_start, run_of};
+use runs::near::{near_end, near_start, run_of};
+use runs::voiced::{Span, is_voiced};
+
+// The level of a track, and where in it syllables are looked for.
+#[derive(Clone, Copy)]
+pub struct RegionLevel<'a> {
+    pub level: &'a [f32],
+    pub bounds: Bounds,
+    ghost inside: { bounds.end ≤ length level.now },
+}
+
+impl<'a> RegionLevel<'a> {
+    // Whether frame at is in the region, and its level at or above the speech threshold.
+    pub fn is_speech(self, at: u32) -> bool
+        ensures { result ≡ speech_by_level self.entry.level.now self.entry.bounds at }
+    {
+        let i = at as usize;
+        (self.bounds.start <= i && i < self.bounds.end) && self.bounds.threshold <= self.level[i]
+    }
+}
 
 // Whether some frame within 2 of frame at has a pitch.
 pub fn pitch_near(pitch: &[f32], at: u32) -> bool
     ensures { result ≡ pitch_near pitch.now at }
 {
-    let end = near_end(at, pitch.len());
-    let mut i = near_start(at);
-    while i < end {
-        if pitch[i] != 0.0 {
+    for i in near_start(at)..near_end(at, pitch.len()) {
+        if is_voiced(pitch[i]) {
             return true;
         }
-        i += 1;
     }
     false
 }
 
-// Whether frame at is in the region, and its level at or above the speech threshold.
-pub fn level_is_speech(s: &[f32], b: Bounds, at: u32) -> bool
-    requires { b.end ≤ length s.now }
-    ensures { result ≡ speech_by_level s.now b at }
-{
-    let i = at as usize;
-    if i < b.start {
-        return false;
-    }
-    if b.end <= i {
-        return false;
-    }
-    b.threshold <= s[i]
-}
-
 // Whether a peak of the level is a candidate.
-fn voiced_peak(s: &[f32], pitch: &[f32], b: Bounds, at: u32) -> bool
-    requires { b.end ≤ length s.now }
-    ensures { result ≡ voiced_peak s.now pitch.now b at }
+fn voiced_peak(r: RegionLevel<'_>, pitch: &[f32], at: u32) -> bool
+    ensures { result ≡ voiced_peak r.entry.level.now pitch.now r.entry.bounds at }
 {
-    pitch_near(pitch, at) && level_is_speech(s, b, at)
+    pitch_near(pitch, at) && r.is_speech(at)
 }
 
-// The frame of first..=last that is nearest to frame at.
-fn clamp(first: u32, last: u32, at: u32) -> u32
-    ensures { result ≡ clamp_to first last at }
+// The frame of a run that is nearest to frame at.
+// By hand: the library's `clamp` requires that the ends are in order, which these contracts do not ask of runs.
+fn clamp(run: Span, at: u32) -> u32
+    ensures { result ≡ clamp_to run at }
 {
-    if at < first {
-        first
-    } else if last < at {
-        last
+    if at < run.first {
+        run.first
+    } else if run.last < at {
+        run.last
     } else {
         at
     }
@@ -60,40 +61,32 @@ fn clamp(first: u32, last: u32, at: u32) -> u32
 
 // Frame at, moved onto the nearest frame of the run that it belongs to if that one is speech; at itself where it
 // belongs to none.
-fn onto_run(s: &[f32], b: Bounds, first: &[u32], last: &[u32], at: u32) -> u32
-    requires { (b.end ≤ length s.now) × SpansLent first.now last.now }
-    ensures { result ≡ onto_run s.now b (spans first.now last.now) at }
+fn onto_run(r: RegionLevel<'_>, runs: &[Span], at: u32) -> u32
+    requires { length runs.now ≤ 2048 }
+    ensures { result ≡ onto_run r.entry.level.now r.entry.bounds runs.now at }
 {
-    let Found::At(_, f, l) = run_of(first, last, at) else {
+    let Some(found) = run_of(runs, at) else {
         return at;
     };
-    let on = clamp(f, l, at);
-    if level_is_speech(s, b, on) { on } else { at }
+    let on = clamp(found.run, at);
+    if r.is_speech(on) { on } else { at }
 }
 
-// Writes those of the peaks that are candidates, each moved onto its run, and returns how many they are.
-pub fn peaks_onto(
-    s: &[f32],
+// Puts those of the peaks that are candidates, each moved onto its run, after what there is.
+pub fn peaks_onto<const N: usize>(
+    r: RegionLevel<'_>,
     pitch: &[f32],
-    b: Bounds,
-    first: &[u32],
-    last: &[u32],
+    runs: &[Span],
     peaks: &[u32],
-    out: &mut [u32],
-) -> usize
-    requires { (b.end ≤ length s.now) × SpansLent first.now last.now × (length peaks.now ≤ length out.old) }
-    ensures { Listed (peaks_onto s.now pitch.now b (spans first.now last.now)
-        peaks.now) out.old out.new result }
+    out: &mut ArrayVec<u32, N>,
+)
+    requires { (length runs.now ≤ 2048) × (array_vec_len out.old + length peaks.now ≤ N) }
+    ensures { out.new.items ≡ out.old.items ++
+        peaks_onto r.entry.level.now pitch.now r.entry.bounds runs.now peaks.now }
 {
-    let mut n: usize = 0;
-    let mut i: usize = 0;
-    while i < peaks.len() {
-        let x = peaks[i];
-        if voiced_peak(s, pitch, b, x) {
-            out[n] = onto_run(s, b, first, last, x);
-            n += 1;
+    for x in peaks {
+        if voiced_peak(r, pitch, *x) {
+            out.push(onto_run(r, runs, *x));
         }
-        i += 1;
     }
-    n
 }

@@ -1,13 +1,11 @@
 -- What the comparisons of pitches mean, over exact values: a finite float is the fraction `num` / `den`. Definitions only.
-use Rattle.std.specs.Prelude.{◌≡◌, ℕ, ◌*◌, ◌^◌, min, max, Bool, false, cond, T, ◌⊎◌, pos, nat_le, nat_lt, Float}
+use Rattle.std.specs.Prelude.{◌≡◌, ℕ, ◌*◌, ◌^◌, min, max, Bool, false, cond, T, ◌⊎◌, pos, nat_le, nat_lt, Float, Option, Some, None}
 use Rattle.std.specs.Float.{fin}
 use Rattle.std.specs.Float.Ieee.{le}
 use Rattle.std.specs.Float.Ieee.Positive.{num, den}
 use Rattle.floats.specs.Plain.{zero_f, is_between}
 use Rattle.powers.specs.declared.pitch.Octave.{Octave}
 use Rattle.powers.specs.declared.pitch.Octave.TheVariants.{Keep, Halve, Double}
-use Rattle.powers.specs.declared.pitch.Pitch.{Pitch}
-use Rattle.powers.specs.declared.pitch.Pitch.TheVariants.{Unvoiced, Hz}
 
 -- n Hz
 abbrev pub hz : ℕ → Float
@@ -30,14 +28,14 @@ abbrev pub breaks_at : Float → Float → Bool
 breaks_at p q = breaks_in (num p * den q) (num q * den p)
 
 -- what an entry of a track stands for: a pitch from 20 to 4,000 Hz, or none
-abbrev pub pitch_of : Float → Pitch
-pitch_of x = cond (is_between (hz 20) (hz 4000) x) (Hz x) Unvoiced
+abbrev pub pitch_of : Float → Option Float
+pitch_of x = cond (is_between (hz 20) (hz 4000) x) (Some x) None
 
 -- a break between what two entries stand for; there is none where one is no pitch
-abbrev pub breaks_between : Pitch → Pitch → Bool
-breaks_between (Hz p) (Hz q) = breaks_at p q
-breaks_between (Hz p) Unvoiced = false
-breaks_between Unvoiced q = false
+abbrev pub breaks_between : Option Float → Option Float → Bool
+breaks_between (Some p) (Some q) = breaks_at p q
+breaks_between (Some p) None = false
+breaks_between None q = false
 
 -- a step within 1.5 semitones: the larger to the 8th is at most twice the smaller to the 8th
 unfoldable pub step_in : ℕ → ℕ → Bool

@@ -4,31 +4,39 @@ use Prim.Native.Nat.{ℕ, ◌+◌, ◌-◌, ◌≤◌, ◌<◌, min}
 use native.Mathlib.Nat.{eq-or-lt_of_le}
 use native.Mathlib.Omega.{arith}
 use mathlib.Core.Path.{◌≡◌, refl, sym, ◌∙◌}
-use mathlib.Core.Bool.{Bool, true, false, true≢false}
+use mathlib.Core.Bool.{Bool, true, false, ◌&&◌, true≢false}
 use mathlib.Core.List.{List}
 use mathlib.Core.Logic.{◌⊎◌, inl, inr, ⊎_elim}
+use borrow.Author.Tests.{leb-true}
+use lib.Dec.{leb}
 use lib.ListN.{length, get_or}
 use lib.Ieee.{Float}
 use Rattle.floats.proofs.Less.{le_or_lt}
 use Rattle.lists.specs.Frames.{at}
+use Rattle.lists.proofs.Tests.{and_cases}
 use Rattle.lists.proofs.Walks.{NonePass, none_join, back_is, all_at}
-use Rattle.nsdf.specs.declared.period.Estimate.{Estimate}
-use Rattle.nsdf.specs.declared.period.Estimate.TheVariants.{Nothing}
+use Rattle.std.specs.Prelude.{Option, None}
 use Rattle.recover.specs.Estimates.{pitchless, estimates}
-use Rattle.recover.specs.Recovered.{starts, start_of, end_of, island, recovered_by}
+use Rattle.recover.specs.Recovered.{starts, start_of, end_of, all_pitchless, island, recovered_by}
 use Rattle.recover.proofs.Trying.{length_estimates, estimate_of, untried}
-use Rattle.recover.proofs.Alone.{island_parts}
 use Rattle.recover.proofs.Walking.{none_starts, next_starts, first_after, end_above, end_within}
 use Rattle.recover.proofs.Kept.{off_island, recovered_at_lem, given_at}
 
+-- ---- the parts of the test
+island_parts : (given : List Float) (s e : ℕ) → island given s e ≡ true → (3 ≤ e - s) × (all_pitchless given (s - 3) (min 3 s) ≡ true) × (all_pitchless given e 3 ≡ true)
+island_parts given s e t =
+    let a = and_cases (leb 3 (e - s)) (all_pitchless given (s - 3) (min 3 s) && all_pitchless given e 3) t in
+    let b = and_cases (all_pitchless given (s - 3) (min 3 s)) (all_pitchless given e 3) a.1 in
+    (leb-true 3 (e - s) a.0, b.0, b.1)
+
 -- ---- the stretch of a frame
-module _ (es : List Estimate) (i : ℕ) where
+module _ (es : List (Option Float)) (i : ℕ) where
   -- none starts inside it
   none_inside : NonePass (starts es) (start_of es i + 1) (end_of es i)
   none_inside = none_join (starts es) (back_is (starts es) i).after (first_after es i).before
 
   -- so where it has 2 frames or more, each has an estimate
-  all_estimated : start_of es i + 1 < end_of es i → (k : ℕ) → start_of es i ≤ k → k < end_of es i → get_or es k Nothing ≡ Nothing → ⊥
+  all_estimated : start_of es i + 1 < end_of es i → (k : ℕ) → start_of es i ≤ k → k < end_of es i → get_or es k None ≡ None → ⊥
   all_estimated two k low high e =
       ⊎_elim
       (λ q. true≢false (sym (next_starts es k e) ∙ none_inside (k + 1) (omega arith) (omega arith)))
@@ -36,7 +44,7 @@ module _ (es : List Estimate) (i : ℕ) where
       (eq-or-lt_of_le low)
 
 -- ---- one that is recovered, where frames with a pitch have no estimate
-module _ (given : List Float) (es : List Estimate) (no-estimate : (k : ℕ) → k < length es → pitchless given k ≡ false → get_or es k Nothing ≡ Nothing)
+module _ (given : List Float) (es : List (Option Float)) (no-estimate : (k : ℕ) → k < length es → pitchless given k ≡ false → get_or es k None ≡ None)
     (i : ℕ) (h : i < length es) (lone : island given (start_of es i) (end_of es i) ≡ true) where
   pitchless_inside : (k : ℕ) → start_of es i ≤ k → k < end_of es i → pitchless given k ≡ true
   pitchless_inside k low high = go (pitchless given k) refl
@@ -58,12 +66,12 @@ module _ (given : List Float) (es : List Estimate) (no-estimate : (k : ℕ) → 
       (λ before. all_at (pitchless given) (start_of es i - 3) (min 3 (start_of es i)) j parts.1 (omega arith) (omega arith))
       (le_or_lt (start_of es i) j)
 
-module _ (period : ℕ → Estimate) (p : List Float) (s v : List ℕ) where
+module _ (period : ℕ → Option Float) (p : List Float) (s v : List ℕ) where
   -- any frame keeps what it had, or no frame within 3 of it had a pitch as given
   pub recovered_apart : (i : ℕ) → i < length p → (at (recovered_by period p s v) i ≡ at p i) ⊎ ((j : ℕ) → i ≤ j + 3 → j ≤ i + 3 → pitchless p j ≡ true)
   recovered_apart i h = go (island p (start_of es i) (end_of es i)) refl
     where
-      es : List Estimate
+      es : List (Option Float)
       es = estimates period p s v
 
       go : (b : Bool) → island p (start_of es i) (end_of es i) ≡ b → (at (recovered_by period p s v) i ≡ at p i) ⊎ ((j : ℕ) → i ≤ j + 3 → j ≤ i + 3 → pitchless p j ≡ true)

@@ -20,9 +20,7 @@ use Rattle.lists.specs.Frames.{at}
 use Rattle.lists.proofs.Entries.{each_at, at_each}
 use Rattle.lists.proofs.Parts.{get_d_any}
 use Rattle.lists.proofs.Tabulated.{length_tabulate, tabulate_at}
-use Rattle.nsdf.specs.declared.period.Estimate.{Estimate}
-use Rattle.nsdf.specs.declared.period.Estimate.TheVariants.{Nothing, Hz}
-use Rattle.nsdf.proofs.Range.{not_both}
+use Rattle.std.specs.Prelude.{Option, None, Some}
 use Rattle.powers.specs.Pitch.{hz, Between, PitchOrNone}
 use Rattle.powers.proofs.Ranges.{enclosed}
 use Rattle.recover.specs.Estimates.{pitchless, estimates, InRange}
@@ -31,11 +29,11 @@ use Rattle.recover.proofs.Trying.{estimate_of, untried, estimate_has}
 use Rattle.recover.proofs.Walking.{start_alone, end_alone}
 
 -- ---- a frame of a stretch that is not recovered keeps what it had
-pub off_island : (given : List Float) (es : List Estimate) (i : ℕ) → island given (start_of es i) (end_of es i) ≡ false → recovered_at given es i ≡ get_or given i zero_f
+pub off_island : (given : List Float) (es : List (Option Float)) (i : ℕ) → island given (start_of es i) (end_of es i) ≡ false → recovered_at given es i ≡ get_or given i zero_f
 off_island given es i e = rw e
 
 -- a frame with no estimate is such a stretch, of one frame
-none_kept : (given : List Float) (es : List Estimate) (i : ℕ) → get_or es i Nothing ≡ Nothing → recovered_at given es i ≡ get_or given i zero_f
+none_kept : (given : List Float) (es : List (Option Float)) (i : ℕ) → get_or es i None ≡ None → recovered_at given es i ≡ get_or given i zero_f
 none_kept given es i e =
     let s : start_of es i ≡ i = start_alone es i e in
     let t : end_of es i ≡ i + 1 = end_alone es i e in
@@ -43,19 +41,19 @@ none_kept given es i e =
     let short : leb 3 (end_of es i - start_of es i) ≡ false = ap (leb 3) (ap₂ ◌-◌ t s ∙ one) in
     off_island given es i (rw short)
 
-by_estimate : (P : Float → Type 0) (given : List Float) (es : List Estimate) (i : ℕ) → ((x : Float) → get_or es i Nothing ≡ Hz x → P (narrow x))
+by_estimate : (P : Float → Type 0) (given : List Float) (es : List (Option Float)) (i : ℕ) → ((x : Float) → get_or es i None ≡ Some x → P (narrow x))
     → (recovered_at given es i ≡ get_or given i zero_f) ⊎ P (recovered_at given es i)
-by_estimate P given es i r = go (get_or es i Nothing) refl
+by_estimate P given es i r = go (get_or es i None) refl
   where
-    go : (e : Estimate) → get_or es i Nothing ≡ e → (recovered_at given es i ≡ get_or given i zero_f) ⊎ P (recovered_at given es i)
-    go Nothing q = inl (none_kept given es i q)
-    go (Hz x) q = pick (island given (start_of es i) (end_of es i)) refl
+    go : (e : Option Float) → get_or es i None ≡ e → (recovered_at given es i ≡ get_or given i zero_f) ⊎ P (recovered_at given es i)
+    go None q = inl (none_kept given es i q)
+    go (Some x) q = pick (island given (start_of es i) (end_of es i)) refl
       where
         pick : (b : Bool) → island given (start_of es i) (end_of es i) ≡ b → (recovered_at given es i ≡ get_or given i zero_f) ⊎ P (recovered_at given es i)
-        pick true t = inr (subst P (sym (ap (λ (b : Bool). cond b (stored (get_or es i Nothing)) (get_or given i zero_f)) t ∙ ap stored q)) (r x q))
+        pick true t = inr (subst P (sym (ap (λ (b : Bool). cond b (stored (get_or es i None)) (get_or given i zero_f)) t ∙ ap stored q)) (r x q))
         pick false t = inl (off_island given es i t)
 
-module _ (period : ℕ → Estimate) (p : List Float) (s v : List ℕ) where
+module _ (period : ℕ → Option Float) (p : List Float) (s v : List ℕ) where
   pub length_recovered : length (recovered_by period p s v) ≡ length p
   unfolding recovered_by recovered_from
   length_recovered = length_tabulate (recovered_at p (estimates period p s v)) (length p)
@@ -73,23 +71,23 @@ module _ (period : ℕ → Estimate) (p : List Float) (s v : List ℕ) where
     pitch_kept q = recovered_at_lem ∙ none_kept p (estimates period p s v) i (estimate_of period p s v i h ∙ untried period p s v i q) ∙ given_at
 
     -- any frame keeps what it had, or gets a rounded answer of the estimator
-    pub kept_or_found : (P : Float → Type 0) → ((k : ℕ) (x : Float) → period k ≡ Hz x → P (narrow x)) → (at (recovered_by period p s v) i ≡ at p i) ⊎ P (at (recovered_by period p s v) i)
+    pub kept_or_found : (P : Float → Type 0) → ((k : ℕ) (x : Float) → period k ≡ Some x → P (narrow x)) → (at (recovered_by period p s v) i ≡ at p i) ⊎ P (at (recovered_by period p s v) i)
     kept_or_found P f =
         ⊎_elim (λ q. inl (recovered_at_lem ∙ q ∙ given_at)) (λ q. inr (subst P (sym recovered_at_lem) q))
         (by_estimate P p (estimates period p s v) i (λ x e. estimate_has period p s v (λ y. P (narrow y)) f i x (sym (estimate_of period p s v i h) ∙ e)))
 
   -- so what every pitch as given has, and every rounded answer, every pitch has
-  pub each_recovered : (P : Float → Type 0) → ((k : ℕ) (x : Float) → period k ≡ Hz x → P (narrow x)) → Each P p → Each P (recovered_by period p s v)
+  pub each_recovered : (P : Float → Type 0) → ((k : ℕ) (x : Float) → period k ≡ Some x → P (narrow x)) → Each P p → Each P (recovered_by period p s v)
   each_recovered P f h =
       at_each P (recovered_by period p s v) nan (λ i l.
       let l' : i < length p = subst (λ (n : ℕ). i < n) length_recovered l in
       ⊎_elim (λ q. subst P (sym q) (each_at P p nan h i l')) (λ b. b) (kept_or_found i l' P f))
 
   -- where the estimator finds nothing, nothing is recovered
-  pub none_recovered : ((k : ℕ) → period k ≡ Nothing) → recovered_by period p s v ≡ p
+  pub none_recovered : ((k : ℕ) → period k ≡ None) → recovered_by period p s v ≡ p
   none_recovered none =
       ext_get_or nan (recovered_by period p s v) p length_recovered (λ i l.
-      ⊎_elim (λ q. q) (λ b. absurd b) (kept_or_found i (subst (λ (n : ℕ). i < n) length_recovered l) (λ _. ⊥) (λ k x e. not_both (sym (none k) ∙ e))))
+      ⊎_elim (λ q. q) (λ b. absurd b) (kept_or_found i (subst (λ (n : ℕ). i < n) length_recovered l) (λ _. ⊥) (λ k x e. let q : None ≡ Some x = sym (none k) ∙ e in cc)))
 
 -- ---- rounding to f32 keeps a pitch in the range, whose ends are f32 values
 rounded_range : (a c : ℕ) → 0 < c → 60 * c ≤ a * 1 → a * 1 ≤ 600 * c → Between 60 600 (round binary32 false a c)
@@ -105,7 +103,7 @@ narrow_range x b =
 
 -- a track of which each entry is 0 or from lo to hi Hz stays one, where that range holds 60 to 600
 pub admitted_recovered : (lo hi : ℕ) → T (positive (hz lo)) → T (positive (hz hi)) → T (le (hz lo) (hz 60)) → T (le (hz 600) (hz hi))
-    → (period : ℕ → Estimate) → ((k : ℕ) → InRange (period k)) → (p : List Float) (s v : List ℕ) → Each (PitchOrNone lo hi) p → Each (PitchOrNone lo hi) (recovered_by period p s v)
+    → (period : ℕ → Option Float) → ((k : ℕ) → InRange (period k)) → (p : List Float) (s v : List ℕ) → Each (PitchOrNone lo hi) p → Each (PitchOrNone lo hi) (recovered_by period p s v)
 admitted_recovered lo hi LO HI from to period range p s v =
     each_recovered period p s v (PitchOrNone lo hi)
     (λ k x e. let b = narrow_range x (range k x e) in inr (enclosed lo hi (hz 60) (narrow x) (hz 600) LO HI tt tt from to b.0 b.1))

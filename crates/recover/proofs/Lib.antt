@@ -1,9 +1,6 @@
-pub mod Reading
 pub mod Trying
-pub mod Alone
 pub mod Walking
 pub mod Settling
-pub mod Whole
 pub mod Kept
 pub mod Islands
 pub mod Scaled

@@ -4,38 +4,28 @@ use native.Mathlib.Omega.{arith}
 use native.Mathlib.Numerals.{add-one}
 use mathlib.Core.Path.{◌≡◌, refl, sym, ap, ap₂, ◌∙◌}
 use mathlib.Core.Bool.{Bool, true, false, not, cond}
-use mathlib.Core.List.{List, map}
+use mathlib.Core.List.{List}
 use borrow.Author.Tests.{leb-true, leb-false}
 use lib.Dec.{leb}
 use lib.ListN.{length, get_or, get_or-eq_default}
-use lib.Ieee.{Float, nan}
+use lib.Ieee.{Float}
 use Rattle.floats.specs.Plain.{zero_f}
 use Rattle.lists.proofs.Walks.{First, first_is, first_only, none_yet, back_start, back_stop, back_found}
-use Rattle.nsdf.specs.declared.period.Estimate.{Estimate}
-use Rattle.nsdf.specs.declared.period.Estimate.TheVariants.{Nothing, Hz}
-use Rattle.powers.specs.Pitch.{step_at}
-use Rattle.recover.specs.Recovered.{near, joins, starts, start_of, end_of, island, stored, recovered_at}
-use Rattle.recover.specs.Held.{read_of}
-use Rattle.recover.proofs.Reading.{read_at}
+use Rattle.std.specs.Prelude.{Option, None, Some}
+use Rattle.recover.specs.Recovered.{near, starts, start_of, end_of, island, stored, recovered_at}
 
-near_nothing : (e : Estimate) → near e Nothing ≡ false
-near_nothing Nothing = refl
-near_nothing (Hz p) = refl
+near_none : (e : Option Float) → near e None ≡ false
+near_none None = refl
+near_none (Some p) = refl
 
-module _ (es : List Estimate) where
+module _ (es : List (Option Float)) where
   -- a frame with no estimate starts a stretch, and so does the next one
-  pub none_starts : (i : ℕ) → get_or es i Nothing ≡ Nothing → starts es i ≡ true
+  pub none_starts : (i : ℕ) → get_or es i None ≡ None → starts es i ≡ true
   none_starts zero e = refl
-  none_starts (suc i) e = ap not (ap (near (get_or es i Nothing)) e ∙ near_nothing (get_or es i Nothing))
+  none_starts (suc i) e = ap not (ap (near (get_or es i None)) e ∙ near_none (get_or es i None))
 
-  pub next_starts : (i : ℕ) → get_or es i Nothing ≡ Nothing → starts es (i + 1) ≡ true
-  next_starts i e = rw add-one (ap (λ (x : Estimate). not (near x (get_or es (suc i) Nothing))) e)
-
-  joins_at : (i : ℕ) → 0 < i → joins es i ≡ near (get_or es (i - 1) Nothing) (get_or es i Nothing)
-  joins_at zero h = absurd (omega arith)
-  joins_at (suc i) h =
-      let e : suc i - 1 ≡ i = omega arith in
-      rw e
+  pub next_starts : (i : ℕ) → get_or es i None ≡ None → starts es (i + 1) ≡ true
+  next_starts i e = rw add-one (ap (λ (x : Option Float). not (near x (get_or es (suc i) None))) e)
 
   -- ---- the stretch of a frame
   pub first_after : (i : ℕ) → First (starts es) (i + 1) (length es - (i + 1)) (end_of es i)
@@ -51,11 +41,11 @@ module _ (es : List Estimate) where
   end_starts i = go (leb (length es) (end_of es i)) refl
     where
       go : (b : Bool) → leb (length es) (end_of es i) ≡ b → starts es (end_of es i) ≡ true
-      go true e = none_starts (end_of es i) (get_or-eq_default es Nothing (leb-true (length es) (end_of es i) e))
+      go true e = none_starts (end_of es i) (get_or-eq_default es None (leb-true (length es) (end_of es i) e))
       go false e = (first_after i).here (omega (arith, leb-false (length es) (end_of es i) e))
 
   -- that of a frame with no estimate is the frame alone
-  module _ (i : ℕ) (e : get_or es i Nothing ≡ Nothing) where
+  module _ (i : ℕ) (e : get_or es i None ≡ None) where
     pub start_alone : start_of es i ≡ i
     start_alone = sym (back_stop (starts es) i (back_start (starts es) i) (none_starts i e))
 
@@ -74,19 +64,5 @@ module _ (es : List Estimate) where
         (record { low = omega arith; high = omega (arith, (first_after s).high); before = λ j p q. (first_after s).before j (omega arith) q; here = λ z. end_starts s }))
 
     pub inside_at : (given : List Float) (b : Bool) → island given s (end_of es s) ≡ b
-        → (k : ℕ) → s ≤ k → k < end_of es s → recovered_at given es k ≡ cond b (stored (get_or es k Nothing)) (get_or given k zero_f)
-    inside_at given b q k l h = ap (λ (t : Bool). cond t (stored (get_or es k Nothing)) (get_or given k zero_f)) (ap₂ (island given) (starts_same k l h) (ends_same k l h) ∙ q)
-
--- ---- two neighbours, from the numbers that hold their estimates
-module _ (xs : List Float) (i : ℕ) (above : 0 < i) (h : i < length xs) where
-  joins_read : joins (map read_of xs) i ≡ near (read_of (get_or xs (i - 1) nan)) (read_of (get_or xs i nan))
-  joins_read = joins_at (map read_of xs) i above ∙ ap₂ near (read_at xs (i - 1) (omega arith)) (read_at xs i h)
-
-  pub joins_left : read_of (get_or xs (i - 1) nan) ≡ Nothing → false ≡ joins (map read_of xs) i
-  joins_left a = sym (joins_read ∙ ap (λ (e : Estimate). near e (read_of (get_or xs i nan))) a)
-
-  pub joins_right : read_of (get_or xs i nan) ≡ Nothing → false ≡ joins (map read_of xs) i
-  joins_right b = sym (joins_read ∙ ap (near (read_of (get_or xs (i - 1) nan))) b ∙ near_nothing (read_of (get_or xs (i - 1) nan)))
-
-  pub joins_both : {p q : Float} → read_of (get_or xs (i - 1) nan) ≡ Hz p → read_of (get_or xs i nan) ≡ Hz q → step_at p q ≡ joins (map read_of xs) i
-  joins_both a b = sym (joins_read ∙ ap₂ near a b)
+        → (k : ℕ) → s ≤ k → k < end_of es s → recovered_at given es k ≡ cond b (stored (get_or es k None)) (get_or given k zero_f)
+    inside_at given b q k l h = ap (λ (t : Bool). cond t (stored (get_or es k None)) (get_or given k zero_f)) (ap₂ (island given) (starts_same k l h) (ends_same k l h) ∙ q)

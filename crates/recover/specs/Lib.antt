@@ -1,3 +1,2 @@
 pub mod Estimates
 pub mod Recovered
-pub mod Held

@@ -1,6 +1,6 @@
 -- The floor by places in the total order: sorted, the places of the finite entries come first (`finite_first`), and the values there are those entries in order, so
 -- the 10th percentile needs only two of the places (`tenth_is`, `floor_is`). Assumes nothing.
-use Rattle.std.proofs.Common.{◌≡◌, ℕ, ◌-◌, ◌/◌, ◌<◌, ◌≤◌, Bool, true, false, cond, T, leb, List, [], ◌∷◌, ◌++◌, map, length, get_or, take, sym, refl, ap, ◌∙◌, subst, le_refl, le_of_lt, arith, le-leb}
+use Rattle.std.proofs.Common.{◌≡◌, ℕ, ◌-◌, ◌/◌, ◌<◌, ◌≤◌, Bool, true, false, cond, T, leb, List, [], ◌∷◌, ◌++◌, map, Some, None, length, get_or, take, sym, refl, ap, ◌∙◌, subst, le_refl, le_of_lt, arith, le-leb}
 use lib.ListN.{length-map, get_or-map}
 use lib.Seq.{take-append_seam}
 use lib.Ieee.{Float, nan, binary32, fits}
@@ -16,7 +16,6 @@ use Rattle.lists.proofs.Parts.{get_d_any}
 use Rattle.lists.proofs.Ordered.{each_sort, length_sort}
 use Rattle.lists.proofs.Sorting.{low_trans, insert_front, insert_past}
 use Rattle.select.specs.Order.{at_most}
-use Rattle.region.specs.declared.Floor.TheVariants.{Nothing, At}
 use Rattle.region.specs.Percentile.{rank_of, interpolated, tenth_of, floor_in, floor_of}
 use Rattle.region.proofs.Rank.{whole_part_lem}
 
@@ -82,19 +81,19 @@ unfolding tenth_of
 tenth_is s n e h = ap (interpolated s (rank_of n)) (sym (whole_part_lem n h)) ∙ rw e
 
 -- ---- the floor
-pub no_floor : (db : List Float) → length (filter finite db) ≡ 0 → Nothing ≡ floor_of db
+pub no_floor : (db : List Float) → length (filter finite db) ≡ 0 → None ≡ floor_of db
 no_floor db e = go (sort_by not_after (filter finite db)) (length_sort not_after (filter finite db) ∙ e)
   where
-    go : (s : List Float) → length s ≡ 0 → Nothing ≡ floor_in s
+    go : (s : List Float) → length s ≡ 0 → None ≡ floor_in s
     go [] h = refl
     go (x ∷ s) h = absurd (omega arith)
 
-pub floor_is : (db : List Float) (n : ℕ) → Held db → n ≡ length (filter finite db) → 0 < n → At (tenth_of (map value_of (take n (sorted (map finite_key db))))) ≡ floor_of db
+pub floor_is : (db : List Float) (n : ℕ) → Held db → n ≡ length (filter finite db) → 0 < n → Some (tenth_of (map value_of (take n (sorted (map finite_key db))))) ≡ floor_of db
 floor_is db n held e h =
-    ap (λ (z : List ℕ). At (tenth_of (map value_of z))) (finite_taken db n held e)
-    ∙ ap (λ (z : List Float). At (tenth_of z)) (sorted_values (filter finite db) (each_kept (λ x. T (fits binary32 x)) finite db held))
+    ap (λ (z : List ℕ). Some (tenth_of (map value_of z))) (finite_taken db n held e)
+    ∙ ap (λ (z : List Float). Some (tenth_of z)) (sorted_values (filter finite db) (each_kept (λ x. T (fits binary32 x)) finite db held))
     ∙ go (sort_by not_after (filter finite db)) (rw (length_sort not_after (filter finite db), ← e) h)
   where
-    go : (s : List Float) → 0 < length s → At (tenth_of s) ≡ floor_in s
+    go : (s : List Float) → 0 < length s → Some (tenth_of s) ≡ floor_in s
     go [] g = absurd (omega arith)
     go (x ∷ s) g = refl

@@ -1,5 +1,5 @@
 -- What a found region has: five frames at least, none past the track, and speech at both ends; speech is finite and above the threshold. Assumes nothing.
-use Rattle.std.proofs.Common.{◌≡◌, ℕ, ◌+◌, ◌-◌, ◌<◌, ◌≤◌, Bool, true, false, cond, leb, List, [], ◌∷◌, length, get_or, sym, refl, subst, arith, le-leb, leb-true}
+use Rattle.std.proofs.Common.{◌≡◌, ℕ, ◌+◌, ◌-◌, ◌<◌, ◌≤◌, Bool, true, false, cond, leb, List, [], ◌∷◌, length, get_or, Some, None, sym, refl, ap, subst, arith, le-leb, leb-true}
 use borrow.Author.Tests.{lt-leb}
 use lib.Ieee.{Float, nan, lt}
 use lib.Ieee.Scale.{finite}
@@ -8,8 +8,8 @@ use Rattle.lists.specs.Sorted.{StrictlyRises}
 use Rattle.lists.proofs.Tests.{and_cases}
 use Rattle.lists.proofs.Entries.{each_at}
 use Rattle.lists.proofs.Members.{each_keep, keep_rises}
-use Rattle.region.specs.declared.Region.TheVariants.{Nowhere, Span}
-use Rattle.region.specs.Speech.{speech, speech_at, speech_frames, last_of, region_in}
+use Rattle.region.specs.declared.Region.{Region}
+use Rattle.region.specs.Speech.{speech, speech_at, speech_frames, last_of, spanning, region_in}
 
 -- ---- speech
 pub speech_finite : (t d : Float) → speech t d ≡ true → finite d ≡ true
@@ -35,11 +35,11 @@ spread lo hi (x ∷ []) s h = omega arith
 spread lo hi (x ∷ y ∷ l) s h = omega (arith, spread_from (x + 1) hi x (y ∷ l) s.2 (omega arith))
 
 -- ---- the region of a list of frames
-pub few : (l : List ℕ) → length l < 5 → Nowhere ≡ region_in l
+pub few : (l : List ℕ) → length l < 5 → None ≡ region_in l
 unfolding region_in
 few l h = rw (lt-leb 5 (length l) h)
 
-pub many : (l : List ℕ) → 5 ≤ length l → Span (get_or l 0 0) (last_of 0 l + 1) ≡ region_in l
+pub many : (l : List ℕ) → 5 ≤ length l → Some (spanning (get_or l 0 0) (last_of 0 l + 1)) ≡ region_in l
 unfolding region_in
 many l h = rw (le-leb 5 (length l) h)
 
@@ -48,13 +48,15 @@ pub record Found (l : List ℕ) (a b : ℕ) : Type 0 where
   pub first : a ≡ get_or l 0 0
   pub end : b ≡ last_of 0 l + 1
 
-found : (l : List ℕ) (a b : ℕ) → region_in l ≡ Span a b → Found l a b
+found : (l : List ℕ) (a b : ℕ) → region_in l ≡ Some (spanning a b) → Found l a b
 unfolding region_in
 found l a b e = go (leb 5 (length l)) refl e
   where
-    go : (t : Bool) → leb 5 (length l) ≡ t → cond t (Span (get_or l 0 0) (last_of 0 l + 1)) Nowhere ≡ Span a b → Found l a b
-    go true q p = record { enough = leb-true 5 (length l) q; first = cc; end = cc }
-    go false q p = absurd (let z : ◌≡◌ {A = ℕ} 0 1 = cc in omega arith)
+    go : (t : Bool) → leb 5 (length l) ≡ t → cond t (Some (spanning (get_or l 0 0) (last_of 0 l + 1))) None ≡ Some (spanning a b) → Found l a b
+    go true q p =
+        let s : spanning a b ≡ spanning (get_or l 0 0) (last_of 0 l + 1) = cc in
+        record { enough = leb-true 5 (length l) q; first = ap (λ (r : Region). r.start) s; end = ap (λ (r : Region). r.end) s }
+    go false q p = absurd cc
 
 -- ---- the region of a track
 module _ (t : Float) (db : List Float) where
@@ -65,7 +67,7 @@ module _ (t : Float) (db : List Float) where
   pub last_within : 0 < length (speech_frames t db) → last_of 0 (speech_frames t db) < length db
   last_within h = omega (arith, (last_has _ 0 (speech_frames t db) h frames_have).1)
 
-  module _ (a b : ℕ) (e : region_in (speech_frames t db) ≡ Span a b) where
+  module _ (a b : ℕ) (e : region_in (speech_frames t db) ≡ Some (spanning a b)) where
     some : 0 < length (speech_frames t db)
     some = omega (arith, (found (speech_frames t db) a b e).enough)
 

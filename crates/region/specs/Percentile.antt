@@ -1,5 +1,5 @@
 -- The floor of a track: the 10th percentile of its finite dB, between two of them by proportion. Definitions only.
-use Rattle.std.specs.Prelude.{ℕ, ◌+◌, ◌-◌, min, false, List, [], ◌∷◌, length, pos, slice_index_or, Float}
+use Rattle.std.specs.Prelude.{ℕ, ◌+◌, ◌-◌, min, false, List, [], ◌∷◌, length, pos, slice_index_or, Float, Option, None, Some}
 use Rattle.std.specs.Float.{nan, binary64}
 use Rattle.std.specs.Float.Ieee.{round, add, sub, mul, of_int, to_unsigned}
 use Rattle.std.specs.Float.Ieee.Scale.{finite}
@@ -7,8 +7,6 @@ use Rattle.floats.specs.Narrow.{narrow}
 use Rattle.floats.specs.Total.{not_after}
 use Rattle.lists.specs.Results.{filter}
 use Rattle.lists.specs.By.{sort_by}
-use Rattle.region.specs.declared.Floor.{Floor}
-use Rattle.region.specs.declared.Floor.TheVariants.{Nothing, At}
 
 -- 0.10, the f64 nearest to one tenth
 abbrev pub tenth : Float
@@ -35,10 +33,10 @@ unfoldable pub tenth_of : List Float → Float
 tenth_of s = interpolated s (rank_of (length s)) (whole_part (rank_of (length s)))
 
 -- none of an empty list
-abbrev pub floor_in : List Float → Floor
-floor_in [] = Nothing
-floor_in (x ∷ xs) = At (tenth_of (x ∷ xs))
+abbrev pub floor_in : List Float → Option Float
+floor_in [] = None
+floor_in (x ∷ xs) = Some (tenth_of (x ∷ xs))
 
 -- of the finite dB, sorted in the total order
-abbrev pub floor_of : List Float → Floor
+abbrev pub floor_of : List Float → Option Float
 floor_of db = floor_in (sort_by not_after (filter finite db))

@@ -1,13 +1,14 @@
 // Where a take holds speech: its floor, the threshold over it, the speech frames and the region that they span.
+// That a track has at most 2,048 frames is a `requires` and no type: a type round the slice would be opened at each use.
 #![tactic(auto)]
 
-ghost use Rattle.std.specs.Prelude.{◌≡◌, ◌+◌, ◌<◌, ◌≤◌, min, map, length, take, if◌then◌else◌, slice_index};
+ghost use Rattle.std.specs.Prelude.{◌≡◌, ◌+◌, ◌<◌, ◌≤◌, min, map, [], length, take, slice_index, MatchOption};
 ghost use Rattle.floats.specs.Total.{finite_key, value_of};
 ghost use Rattle.lists.specs.Results.{overlay};
 ghost use Rattle.lists.specs.Sorted.{sorted};
 ghost use Rattle.region.specs.Defaults.{defaults, classic};
 ghost use Rattle.region.specs.Percentile.{tenth_of, floor_of};
-ghost use Rattle.region.specs.Speech.{threshold_over, threshold_of, bounds_over, speech, mark, speech_marks, marks_of, speech_frames, last_of, region_in, region_of};
+ghost use Rattle.region.specs.Speech.{threshold_over, threshold_of, bounds_over, speech, speech_marks, marks_of, speech_frames, last_of, region_in, region_of};
 
 // Fewer speech frames than this make no region: a click, or silence.
 const MIN_SPEECH_FRAMES: u32 = 5;
@@ -33,7 +34,7 @@ pub fn default_settings() -> Settings
     }
 }
 
-// The settings of old lessons: 10 dB, 2 dB, 6 frames.
+// The settings of old lessons: 10 dB, 2 dB, 6 frames. Two functions that differ in a number: C has a name for each set.
 pub fn classic_settings() -> Settings
     ensures { result ≡ classic }
 {
@@ -44,18 +45,11 @@ pub fn classic_settings() -> Settings
     }
 }
 
-// The quiet level of a track in dB, or that it has none.
+// A speech region: from its first frame to one past its last.
 #[derive(Clone, Copy)]
-pub enum Floor {
-    Nothing,
-    At(f32),
-}
-
-// From the first frame to one past the last, or that there is no speech region.
-#[derive(Clone, Copy)]
-pub enum Region {
-    Nowhere,
-    Span(u32, u32),
+pub struct Region {
+    pub start: u32,
+    pub end: u32,
 }
 
 // Where nuclei, extras and boundaries are looked for: in the region start..end, over the speech threshold.
@@ -71,10 +65,8 @@ fn finite_keys(db: &[f32], keys: &mut [u32])
     requires { length db.now ≤ length keys.old }
     ensures { keys.new ≡ overlay (map finite_key db.now) keys.old }
 {
-    let mut i = 0;
-    while i < db.len() {
+    for i in 0..db.len() {
         keys[i] = floats::total::finite_key(db[i]);
-        i += 1;
     }
 }
 
@@ -106,9 +98,9 @@ fn tenth(keys: &[u32], n: u32) -> f32
     floats::rounding::round_to_f32(lo + (rank - (below as f64)) * (hi - lo))
 }
 
-// The floor of a track: the 10th percentile of its finite dB, between two of them by proportion. A track with no finite
-// dB has none.
-pub fn floor_db(db: &[f32]) -> Floor
+// The floor of a track, its quiet level in dB: the 10th percentile of its finite dB, between two of them by proportion. A
+// track with no finite dB has none.
+pub fn floor_db(db: &[f32]) -> Option<f32>
     requires { length db.now ≤ 2048 }
     ensures { result ≡ floor_of db.now }
 {
@@ -117,18 +109,18 @@ pub fn floor_db(db: &[f32]) -> Floor
     // how many are finite: the others have the last key there is
     let n = select::count(&keys[..db.len()], 0xffff_fffe);
     if n == 0 {
-        return Floor::Nothing;
+        return None;
     }
-    Floor::At(tenth(&keys[..db.len()], n))
+    Some(tenth(&keys[..db.len()], n))
 }
 
 // What a frame's dB must exceed to be speech; +infinity over no floor, which nothing exceeds.
-pub fn threshold_over(floor: Floor, margin: f32) -> f32
+pub fn threshold_over(floor: Option<f32>, margin: f32) -> f32
     ensures { result ≡ threshold_over floor margin }
 {
     match floor {
-        Floor::Nothing => f32::from_bits(0x7f80_0000),
-        Floor::At(x) => x + margin,
+        None => f32::from_bits(0x7f80_0000),
+        Some(x) => x + margin,
     }
 }
 
@@ -138,8 +130,8 @@ pub fn bounds_over(floor: f32, p: Settings, start: usize, end: usize) -> Bounds
 {
     Bounds {
         threshold: floor + p.margin,
-        start: start,
-        end: end,
+        start,
+        end,
     }
 }
 
@@ -159,22 +151,14 @@ pub fn is_speech(threshold: f32, d: f32) -> bool
     threshold < d && d < f32::from_bits(0x7f80_0000)
 }
 
-// The mark of a frame: 1 where it is speech, else 0.
-fn speech_mark(threshold: f32, d: f32) -> u8
-    ensures { result ≡ mark threshold d }
-{
-    if is_speech(threshold, d) { 1 } else { 0 }
-}
-
-// Marks the speech frames of a track, given its threshold, at the front of out, whose entries past the track stay.
+// Marks the speech frames of a track, given its threshold, by 1 and the others by 0, at the front of out, whose entries past
+// the track stay.
 pub fn marks_above(db: &[f32], threshold: f32, out: &mut [u8])
     requires { length db.now ≤ length out.old }
     ensures { out.new ≡ overlay (speech_marks threshold db.now) out.old }
 {
-    let mut i = 0;
-    while i < db.len() {
-        out[i] = speech_mark(threshold, db[i]);
-        i += 1;
+    for i in 0..db.len() {
+        out[i] = is_speech(threshold, db[i]) as u8;
     }
 }
 
@@ -193,65 +177,54 @@ fn speech_count(db: &[f32], threshold: f32) -> u32
     ensures { result ≡ length (speech_frames threshold db.now) }
 {
     let mut n = 0u32;
-    let mut i = 0;
-    while i < db.len() {
-        n = n + one_if(is_speech(threshold, db[i]));
-        i += 1;
+    for d in db {
+        n += is_speech(threshold, *d) as u32;
     }
     n
 }
 
-// 1 where b holds, else 0.
-fn one_if(b: bool) -> u32
-    ensures { result ≡ (if b then 1 else 0) }
-{
-    if b { 1 } else { 0 }
-}
-
-// The first speech frame; 0 where there is none.
-fn first_speech(db: &[f32], threshold: f32) -> u32
+// The first speech frame.
+fn first_speech(db: &[f32], threshold: f32) -> Option<u32>
     requires { length db.now ≤ 2048 }
-    ensures { result ≡ slice_index (speech_frames threshold db.now) 0 }
+    ensures { MatchOption result (speech_frames threshold db.now ≡ []) (λ i. i ≡ slice_index (speech_frames threshold db.now) 0) }
 {
-    let mut i = 0;
-    while i < db.len() {
-        if is_speech(threshold, db[i]) {
-            return i as u32;
-        }
-        i += 1;
-    }
-    0
-}
-
-// The last speech frame; 0 where there is none.
-fn last_speech(db: &[f32], threshold: f32) -> u32
-    requires { length db.now ≤ 2048 }
-    ensures { result ≡ last_of 0 (speech_frames threshold db.now) }
-{
-    let mut i = db.len();
-    while 0 < i {
-        i -= 1;
-        if is_speech(threshold, db[i]) {
-            return i as u32;
+    for (i, d) in db.iter().enumerate() {
+        if is_speech(threshold, *d) {
+            return Some(i as u32);
         }
     }
-    0
+    None
+}
+
+// The last speech frame.
+fn last_speech(db: &[f32], threshold: f32) -> Option<u32>
+    requires { length db.now ≤ 2048 }
+    ensures { MatchOption result (speech_frames threshold db.now ≡ []) (λ i. i ≡ last_of 0 (speech_frames threshold db.now)) }
+{
+    for i in (0..db.len()).rev() {
+        if is_speech(threshold, db[i]) {
+            return Some(i as u32);
+        }
+    }
+    None
 }
 
 // The speech region of a track, given its threshold: from the first speech frame to one past the last, pauses included.
 // Fewer than 5 speech frames make none.
-pub fn region_above(db: &[f32], threshold: f32) -> Region
+pub fn region_above(db: &[f32], threshold: f32) -> Option<Region>
     requires { length db.now ≤ 2048 }
     ensures { result ≡ region_in (speech_frames threshold db.now) }
 {
     if speech_count(db, threshold) < MIN_SPEECH_FRAMES {
-        return Region::Nowhere;
+        return None;
     }
-    Region::Span(first_speech(db, threshold), last_speech(db, threshold) + 1)
+    let start = first_speech(db, threshold)?;
+    let end = last_speech(db, threshold)? + 1;
+    Some(Region { start, end })
 }
 
 // The speech region of a track.
-pub fn speech_region(db: &[f32], p: Settings) -> Region
+pub fn speech_region(db: &[f32], p: Settings) -> Option<Region>
     requires { length db.now ≤ 2048 }
     ensures { result ≡ region_of db.now p }
 {

@@ -4,8 +4,7 @@ use native.Mathlib.Omega.{arith}
 use mathlib.Core.Path.{◌≡◌, refl, sym, ap, ap₂, ◌∙◌, subst}
 use mathlib.Core.List.{List, [], ◌∷◌, map}
 use lib.Dec.{T, leb}
-use lib.ListN.{length, get_or, take, length-map, get_or-map}
-use lib.Seq.{get_or-take}
+use lib.ListN.{length, get_or, length-map, get_or-map}
 use lib.Ieee.{Float, nan, binary32, fits, of_bits}
 use lib.Ieee.Bits.{of_bits-fits}
 use lib.Ieee.{le}
@@ -20,6 +19,7 @@ use Rattle.powers.specs.Pitch.{hz, Between, octave_at}
 use Rattle.powers.proofs.Ranges.{enclosed}
 use Rattle.repair.specs.Repair.{shifted, beside}
 use Rattle.repair.specs.Places.{PitchPlace}
+use Rattle.repair.proofs.Inserting.{sorted_many}
 
 -- a pitch for the repair is a pitch
 pub wider : (f : Float) → Between 40 2000 f → Between 20 4000 f
@@ -47,21 +47,21 @@ module _ (ks : List ℕ) (h : Each PitchPlace ks) where
 pub middle_below : (m : ℕ) → 0 < m → ((m - 1) / 2 < m) × (m / 2 < m)
 middle_below m h = (omega arith, omega arith)
 
--- ks in order, at the front of a
-module _ (ks a : List ℕ) (m : ℕ) (h : Each PitchPlace ks) (count : m ≡ length ks) (s : IsSorted ks (take m a)) where
-  sorted_at : (i : ℕ) → i < m → get_or (sorted ks) i 0 ≡ get_or a i 0
-  sorted_at i l = ap (λ (r : List ℕ). get_or r i 0) (sym (sorted_only s)) ∙ get_or-take m a i 0 l
+-- ks in order
+module _ (ks a : List ℕ) (h : Each PitchPlace ks) (s : IsSorted ks a) where
+  sorted_at : (i : ℕ) → get_or (sorted ks) i 0 ≡ get_or a i 0
+  sorted_at i = ap (λ (r : List ℕ). get_or r i 0) (sym (sorted_only s))
 
-  at_place : (i : ℕ) → i < m → get_or (sort_by not_after (map value_of ks)) i nan ≡ value_of (get_or a i 0)
-  at_place i l = sorted_value ks h i ∙ ap value_of (sorted_at i l)
+  at_place : (i : ℕ) → get_or (sort_by not_after (map value_of ks)) i nan ≡ value_of (get_or a i 0)
+  at_place i = sorted_value ks h i ∙ ap value_of (sorted_at i)
 
-  pub place_pitched : (i : ℕ) → i < m → Between 40 2000 (value_of (get_or a i 0))
-  place_pitched i l = subst (λ (k : ℕ). Between 40 2000 (value_of k)) (sorted_at i l) (sorted_pitched ks h i (omega (arith, count))).1
+  pub place_pitched : (i : ℕ) → i < length a → Between 40 2000 (value_of (get_or a i 0))
+  place_pitched i l = subst (λ (k : ℕ). Between 40 2000 (value_of k)) (sorted_at i) (sorted_pitched ks h i (omega (arith, sorted_many s))).1
 
-  pub beside_places : (f : Float) → 0 < m → beside f (map value_of ks) ≡ shifted (octave_at f (value_of (get_or a ((m - 1) / 2) 0)) (value_of (get_or a (m / 2) 0))) f
+  pub beside_places : (f : Float) → beside f (map value_of ks) ≡ shifted (octave_at f (value_of (get_or a ((length a - 1) / 2) 0)) (value_of (get_or a (length a / 2) 0))) f
   unfolding beside
-  beside_places f l =
-      let e : length (map value_of ks) ≡ m = length-map ks value_of ∙ sym count in
+  beside_places f =
+      let e : length (map value_of ks) ≡ length a = length-map ks value_of ∙ sym (sorted_many s) in
       ap₂ (λ (x y : Float). shifted (octave_at f x y) f)
-      (ap (λ (n : ℕ). get_or (sort_by not_after (map value_of ks)) ((n - 1) / 2) nan) e ∙ at_place ((m - 1) / 2) (middle_below m l).0)
-      (ap (λ (n : ℕ). get_or (sort_by not_after (map value_of ks)) (n / 2) nan) e ∙ at_place (m / 2) (middle_below m l).1)
+      (ap (λ (n : ℕ). get_or (sort_by not_after (map value_of ks)) ((n - 1) / 2) nan) e ∙ at_place ((length a - 1) / 2))
+      (ap (λ (n : ℕ). get_or (sort_by not_after (map value_of ks)) (n / 2) nan) e ∙ at_place (length a / 2))

@@ -21,7 +21,8 @@ use Rattle.powers.specs.Pitch.{hz, Between, PitchOrNone, octave_at}
 use Rattle.powers.specs.declared.pitch.Octave.{Octave}
 use Rattle.powers.specs.declared.pitch.Octave.TheVariants.{Keep, Halve, Double}
 use Rattle.powers.proofs.Repaired.{halved_admitted, doubled_admitted}
-use Rattle.runs.specs.Runs.{voiced, voiced_frames, Span, long_runs}
+use Rattle.runs.specs.declared.voiced.Span.{Span}
+use Rattle.runs.specs.Runs.{voiced, voiced_frames, long_runs}
 use Rattle.lists.specs.Frames.{at}
 use Rattle.repair.specs.Repair.{Pitches, voiced_in, lower_middle, upper_middle, shifted, beside, repaired_in, repaired_among, repaired}
 use Rattle.repair.proofs.Middles.{wider}

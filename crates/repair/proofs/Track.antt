@@ -4,15 +4,16 @@ use native.Mathlib.Omega.{arith}
 use mathlib.Core.Path.{◌≡◌, refl, sym, ap, ap₂, ◌∙◌, subst}
 use mathlib.Core.Bool.{Bool, true, false, cond}
 use mathlib.Core.List.{List, [], ◌∷◌, ◌++◌, map, map-append}
-use lib.Dec.{T, eqb}
-use lib.ListN.{length, get_or, take, drop, set, length-map}
+use lib.Dec.{T, eqb, ltb}
+use lib.ListN.{length, get_or, take, drop, set, length-map, length-drop, drop_of_length-le}
 use lib.Seq.{get_or-set_same, get_or-set_other}
 use lib.Ieee.{Float, nan, binary32, fits}
-use borrow.Author.Tests.{eqb-true, eqb-false}
+use borrow.Author.Tests.{eqb-true, eqb-false, ltb-true, ltb-false}
 use Rattle.floats.specs.Total.{total_key, value_of}
 use Rattle.floats.proofs.Order.{value_back}
 use Rattle.lists.specs.By.{Each}
 use Rattle.lists.specs.Marks.{member}
+use Rattle.lists.specs.Sorted.{StrictlyRises}
 use Rattle.lists.proofs.Fill.{drop_step}
 use Rattle.lists.proofs.Entries.{each_map, each_of_map}
 use Rattle.lists.proofs.Parts.{take_map, drop_map}
@@ -20,8 +21,15 @@ use Rattle.lists.proofs.Members.{strict_few, member_over}
 use Rattle.powers.specs.Pitch.{Between}
 use Rattle.lists.specs.Frames.{at}
 use Rattle.repair.specs.Repair.{last_few, beside, repaired_in}
-use Rattle.repair.specs.Places.{around, PitchPlace, key_at, Gathered, Written}
+use Rattle.repair.specs.Places.{around, PitchPlace, key_at, Written}
 use Rattle.repair.proofs.Places.{neighbours_at}
+
+-- the voiced frames of a run, two or more, with the places of their pitches
+pub record Gathered (pitch : List Float) (frames keys : List ℕ) : Type 0 where
+  pub rises : StrictlyRises 0 (length pitch) frames
+  pub several : 2 ≤ length frames
+  pub pitched : Each (λ i. Between 40 2000 (at pitch i)) frames
+  pub places : keys ≡ map (key_at pitch) frames
 
 either : (b : Bool) {x y : Float} → y ≡ x → cond b x y ≡ x
 either true e = refl
@@ -96,3 +104,17 @@ module _ (pitch : List Float) (frames keys : List ℕ) (g : Gathered pitch frame
         ∙ ap (map value_of) (sym (map_around (key_at pitch) frames p))
         ∙ values_back (around frames p)
         ∙ ap (map (at pitch)) (sym (neighbours_at (length pitch) 0 frames p h g.rises)))
+
+-- ---- an entry that stands first in what is left of a list
+pub entry_at : (l rest : List ℕ) (p x : ℕ) → drop p l ≡ x ∷ rest → (p < length l) × (get_or l p 0 ≡ x) × (drop (p + 1) l ≡ rest)
+entry_at l rest p x e = go (ltb p (length l)) refl
+  where
+    go : (b : Bool) → ltb p (length l) ≡ b → (p < length l) × (get_or l p 0 ≡ x) × (drop (p + 1) l ≡ rest)
+    go true q =
+        let h = ltb-true p (length l) q in
+        let s = sym (drop_step l p 0 h) ∙ e in
+        (h, cc, cc)
+    go false q = absurd (cc (drop_of_length-le l (ltb-false p (length l) q)))
+
+pub none_left : (p : ℕ) (l : List ℕ) → drop p l ≡ [] → length l ≤ p
+none_left p l e = omega (arith, simp length-drop at (ap length e))

@@ -1,12 +1,10 @@
 -- Scaffolding of the code's loops: the frames of a run by their places in it, their pitches by their places in the total order, and what is written to a track. Definitions only.
-use Rattle.std.specs.Prelude.{ℕ, ◌+◌, ◌-◌, ◌≤◌, ◌<◌, ◌≡◌, Bool, cond, List, ◌++◌, map, ltb, length, get_or, take, drop, Float}
+use Rattle.std.specs.Prelude.{ℕ, ◌+◌, ◌-◌, ◌≤◌, ◌<◌, ◌≡◌, Bool, cond, List, ◌++◌, ltb, length, get_or, take, drop, Float}
 use Rattle.std.specs.Float.{nan}
 use Rattle.floats.specs.Total.{total_key, value_of}
-use Rattle.lists.specs.By.{Each}
 use Rattle.lists.specs.Marks.{member}
-use Rattle.lists.specs.Sorted.{StrictlyRises}
 use Rattle.powers.specs.Pitch.{Between}
-use Rattle.runs.specs.Runs.{Span}
+use Rattle.runs.specs.declared.voiced.Span.{Span}
 use Rattle.lists.specs.Frames.{at}
 use Rattle.repair.specs.Repair.{voiced_in, last_few, repaired_in}
 
@@ -25,13 +23,6 @@ far k x = ltb 4194304 (x - k + (k - x))
 -- the place of the pitch of frame i
 abbrev pub key_at : List Float → ℕ → ℕ
 key_at pitch i = total_key (at pitch i)
-
--- the voiced frames of a run, two or more, with the places of their pitches
-pub record Gathered (pitch : List Float) (frames keys : List ℕ) : Type 0 where
-  pub rises : StrictlyRises 0 (length pitch) frames
-  pub several : 2 ≤ length frames
-  pub pitched : Each (λ i. Between 40 2000 (at pitch i)) frames
-  pub places : keys ≡ map (key_at pitch) frames
 
 -- a run of the track with 5 voiced frames or more
 pub record LongIn (pitch : List Float) (r : Span) : Type 0 where

@@ -11,7 +11,8 @@ use Rattle.lists.specs.Marks.{member}
 use Rattle.powers.specs.Pitch.{PitchOrNone, octave_at}
 use Rattle.powers.specs.declared.pitch.Octave.{Octave}
 use Rattle.powers.specs.declared.pitch.Octave.TheVariants.{Keep, Halve, Double}
-use Rattle.runs.specs.Runs.{voiced, Span, long_runs}
+use Rattle.runs.specs.declared.voiced.Span.{Span}
+use Rattle.runs.specs.Runs.{voiced, long_runs}
 
 -- each entry of a track is no pitch, or one from lo to hi Hz
 abbrev pub Pitches : ℕ → ℕ → List Float → Type 0

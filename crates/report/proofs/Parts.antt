@@ -1,7 +1,7 @@
 -- The text of what the chain leaves is that of the take; the entries that are listed, as far as their list goes, and that there is room for them. Assumes nothing.
 use Prim.Native.Nat.{ℕ, zero, suc, ◌+◌, ◌≤◌, min}
 use native.Mathlib.Omega.{arith}
-use native.Mathlib.Nat.{le_refl, le_of_eq}
+use native.Mathlib.Nat.{le_refl}
 use mathlib.Core.Path.{◌≡◌, refl, sym, ap, ◌∙◌}
 use mathlib.Core.List.{List}
 use lib.ListN.{length, take, drop, length-take, length-map}
@@ -12,12 +12,14 @@ use Rattle.lists.proofs.Fill.{overlay_take}
 use Rattle.lists.proofs.Parts.{take_min}
 use Rattle.region.specs.Speech.{region_of}
 use Rattle.region.specs.declared.Region.{Region}
-use Rattle.region.specs.declared.Region.TheVariants.{Nowhere, Span}
+use Rattle.std.specs.Prelude.{Option, None, Some, Result, Ok, Err}
 use Rattle.nuclei.specs.Nuclei.{Nucleus, frames_of, strengths_of}
-use Rattle.chain.specs.Chain.{Take, Lists, Left, pitches_of, reading_in, reading_of, written, left_by, leaves, chain_of}
-use Rattle.chain.specs.Chain.{refusal_of}
-use Rattle.take.specs.File.{frame_count, file_refusal, records, track_at, take_in, read_take}
-use Rattle.take.specs.File.{FileTake}
+use Rattle.chain.specs.Chain.{Take, Lists, Left, pitches_of, reading_in, reading_of, marks_in, marks_for, written, left_by, leaves, refusal_of, chain_of}
+use Rattle.chain.specs.declared.Marked.{Marked}
+use Rattle.admit.specs.declared.numbers.Refusal.{Refusal}
+use Rattle.admit.specs.Numbers.{number_at}
+use Rattle.admit.proofs.Numbered.{not_zero}
+use Rattle.take.specs.File.{frame_count, file_refusal, records, track_at, FileTake, take_in, read_take}
 use Rattle.take.specs.Listing.{told_of, listing, refused_listing, largest_listing, Marks as Told}
 use Rattle.take.proofs.Sizes.{listing_fits}
 use Rattle.report.specs.Shown.{told, refusal_in, text_by, text_of, unsampled, printed, shown, Fitting}
@@ -30,11 +32,11 @@ strengths_front : (ns : List Nucleus) (old : List Float) → take (length ns) (o
 strengths_front ns old = overlay_take (strengths_of ns) old (sym (length-map ns (λ (n : Nucleus). n.strength)))
 
 module _ (t : Take) (l : Lists) where
-  shown_in : (r : Region) → let m = reading_in t.db (pitches_of t) t.voiced t.sonority t.settings r in shown t.pitch (left_by written m l) ≡ listing (told t.pitch m)
+  shown_in : (r : Option Region) → let m = reading_in t.db (pitches_of t) t.voiced t.sonority t.settings r in shown t.pitch (left_by written m l) ≡ listing (told t.pitch m)
   unfolding shown
-  shown_in Nowhere = refl
-  shown_in (Span start end) =
-      let m = reading_in t.db (pitches_of t) t.voiced t.sonority t.settings (Span start end) in
+  shown_in None = refl
+  shown_in (Some r) =
+      let m = reading_in t.db (pitches_of t) t.voiced t.sonority t.settings (Some r) in
       rw (
         frames_front m.nuclei l.frames,
         strengths_front m.nuclei l.strengths,
@@ -75,9 +77,6 @@ module _ (t : Take) (few : length t.pitch ≤ 2048) (f : List ℕ) (s : List Flo
       let n = length t.pitch in
       (part_length f n n 2048 hf refl few, part_length s n n 2048 hs refl few, part_length x n n 2048 hx refl few, part_length y n n 2048 hy refl few, part_length e n n 2048 he refl few, part_length b (n + 1) (n + 1) 2049 hb refl (omega arith))
 
-  pub parts_room : Fitting (length t.pitch) parts
-  parts_room = let h = whole in record { few = few; frames = le_of_eq h.0; strengths = h.1 ∙ sym h.0; xframes = le_of_eq h.2; xstrengths = h.3 ∙ sym h.2; edges = le_of_eq h.4; bounds = le_of_eq h.5 }
-
   pub parts_text : {given : List Float} → given ≡ t.pitch → shown given (chain_of t parts) ≡ text_of t
   parts_text g = ap (λ (z : List Float). shown z (chain_of t parts)) g ∙ shown_text t parts whole
 
@@ -86,41 +85,46 @@ pub take_least : {A : Type 0} (l : List A) (k n : ℕ) {r : ℕ} → r ≡ min k
 take_least l k n e h = ap (λ (i : ℕ). take i l) (e ∙ ap (min k) (sym h)) ∙ take_min k l
 
 -- ---- the listing of a call
-module _ (given : List Float) (o : Left) where
-  -- what it is made of, by counts
-  abbrev pub front : ℕ → ℕ → ℕ → ℕ → Told
-  front a b c d =
-      let l = o.lists in
-      told_of given o.pitch o.answer.found o.answer.start o.answer.end (take a l.frames) (take a l.strengths) (take b l.xframes) (take b l.xstrengths) (take c l.edges) (take d l.bounds)
+module _ (given pitch : List Float) (l : Lists) where
+  -- what it is made of, by the region and by counts
+  abbrev pub front : Option Region → ℕ → ℕ → ℕ → ℕ → Told
+  front r a b c d = told_of given pitch r (take a l.frames) (take a l.strengths) (take b l.xframes) (take b l.xstrengths) (take c l.edges) (take d l.bounds)
 
-  pub refused_shown : (o.answer.refusal ≡ 0 → ⊥) → refused_listing o.answer.refusal ≡ shown given o
+  -- what is left where so much is found, or a call is refused
+  abbrev leaving : Result Marked Refusal → Left
+  leaving answer = record { answer = marks_for answer; pitch = pitch; lists = l }
+
+  found_shown : (r : Option Region) (m : Marked) → listing (front r m.nuclei m.extras m.edges m.boundaries) ≡ shown given (record { answer = marks_in r m; pitch = pitch; lists = l })
   unfolding shown
-  refused_shown h = rw (ne_eqb o.answer.refusal 0 h)
+  found_shown None m = refl
+  found_shown (Some r) m = refl
 
-  module _ (room : Fitting (length o.pitch) o.lists) where
-    pub front_fits : (a b c d : ℕ) → length (listing (front a b c d)) ≤ largest_listing
-    front_fits a b c d =
-        listing_fits (front a b c d) (length o.pitch) room.few
+  pub refused_shown : (refusal : Refusal) → refused_listing (number_at refusal) ≡ shown given (leaving (Err refusal))
+  unfolding shown
+  refused_shown refusal = rw (ne_eqb (number_at refusal) 0 (not_zero refusal))
+
+  module _ (room : Fitting (length pitch) l) where
+    pub front_fits : (r : Option Region) (a b c d : ℕ) → length (listing (front r a b c d)) ≤ largest_listing
+    front_fits r a b c d =
+        listing_fits (front r a b c d) (length pitch) room.few
         (record {
-          pitches = le_refl (length o.pitch);
-          nuclei = omega (arith, length-take a o.lists.frames, room.frames);
-          extras = omega (arith, length-take b o.lists.xframes, room.xframes);
-          edges = omega (arith, length-take c o.lists.edges, room.edges);
-          boundaries = omega (arith, length-take d o.lists.bounds, room.bounds);
+          pitches = le_refl (length pitch);
+          nuclei = omega (arith, length-take a l.frames, room.frames);
+          extras = omega (arith, length-take b l.xframes, room.xframes);
+          edges = omega (arith, length-take c l.edges, room.edges);
+          boundaries = omega (arith, length-take d l.bounds, room.bounds);
         })
 
-    pub front_shown : {a b c d : ℕ} → o.answer.refusal ≡ 0 → a ≡ min o.answer.nuclei (length o.lists.frames) → b ≡ min o.answer.extras (length o.lists.xframes) → c ≡ min o.answer.edges (length o.lists.edges) → d ≡ min o.answer.boundaries (length o.lists.bounds) → listing (front a b c d) ≡ shown given o
-    unfolding shown
-    front_shown {a} {b} {c} {d} e ha hb hc hd =
+    pub front_shown : (m : Marked) {a b c d : ℕ} → a ≡ min m.nuclei (length l.frames) → b ≡ min m.extras (length l.xframes) → c ≡ min m.edges (length l.edges) → d ≡ min m.boundaries (length l.bounds) → listing (front m.region a b c d) ≡ shown given (leaving (Ok m))
+    front_shown m {a} {b} {c} {d} ha hb hc hd =
         rw (
-          eq-eqb o.answer.refusal 0 e,
-          take_least o.lists.frames o.answer.nuclei (length o.lists.frames) ha refl,
-          take_least o.lists.strengths o.answer.nuclei (length o.lists.frames) ha room.strengths,
-          take_least o.lists.xframes o.answer.extras (length o.lists.xframes) hb refl,
-          take_least o.lists.xstrengths o.answer.extras (length o.lists.xframes) hb room.xstrengths,
-          take_least o.lists.edges o.answer.edges (length o.lists.edges) hc refl,
-          take_least o.lists.bounds o.answer.boundaries (length o.lists.bounds) hd refl,
-        )
+          take_least l.frames m.nuclei (length l.frames) ha refl,
+          take_least l.strengths m.nuclei (length l.frames) ha room.strengths,
+          take_least l.xframes m.extras (length l.xframes) hb refl,
+          take_least l.xstrengths m.extras (length l.xframes) hb room.xstrengths,
+          take_least l.edges m.edges (length l.edges) hc refl,
+          take_least l.bounds m.boundaries (length l.bounds) hd refl,
+        ) (found_shown m.region m)
 
 -- ---- a file
 module _ (file : List ℕ) where

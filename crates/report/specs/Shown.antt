@@ -1,7 +1,10 @@
 -- The text that answers a take file. Definitions only.
-use Rattle.std.specs.Prelude.{ℕ, zero, suc, ◌+◌, ◌≤◌, ◌≡◌, cond, List, [], eqb, length, take, Float}
+use Rattle.std.specs.Prelude.{ℕ, zero, suc, ◌+◌, ◌≤◌, ◌≡◌, cond, List, [], eqb, length, take, Float, Option, None, Some}
 use Rattle.nuclei.specs.Nuclei.{frames_of, strengths_of}
-use Rattle.chain.specs.Chain.{Take, Reading, Lists, Left, take_of, reading_of, answered, refusal_for}
+use Rattle.region.specs.declared.Region.{Region}
+use Rattle.region.specs.Speech.{spanning}
+use Rattle.chain.specs.declared.Marks.{Marks}
+use Rattle.chain.specs.Chain.{Take, Reading, Lists, Left, take_of, reading_of, refusal_for}
 use Rattle.take.specs.File.{FileTake, FileReading, read_take}
 use Rattle.take.specs.File.FileReading.{refused, taken}
 use Rattle.take.specs.Listing.{told_of, listing, refused_listing, Marks as Told}
@@ -10,8 +13,7 @@ use Rattle.take.specs.Listing.{told_of, listing, refused_listing, Marks as Told}
 -- what its listing tells: the pitches as given beside those of its reading, and the reading's marks
 abbrev pub told : List Float → Reading → Told
 told given m =
-    let a = answered m in
-    told_of given m.pitch a.found a.start a.end (frames_of m.nuclei) (strengths_of m.nuclei) (frames_of m.extras) (strengths_of m.extras) m.edges m.boundaries
+    told_of given m.pitch m.region (frames_of m.nuclei) (strengths_of m.nuclei) (frames_of m.extras) (strengths_of m.extras) m.edges m.boundaries
 
 -- the chain's refusal number where each list has the entries that it needs
 abbrev pub refusal_in : Take → ℕ
@@ -41,6 +43,10 @@ unfoldable pub printed : List ℕ → List ℕ
 printed file = answer_to (read_take file)
 
 -- ---- a call of the chain
+-- the region in what it answers
+abbrev pub region_told : Marks → Option Region
+region_told a = cond a.found (Some (spanning a.start a.end)) None
+
 -- the text of what it answers and leaves: the entries that it answers for, and nothing past them
 unfoldable pub shown : List Float → Left → List ℕ
 shown given o =
@@ -48,7 +54,7 @@ shown given o =
     let l = o.lists in
     cond (eqb a.refusal 0)
     (listing
-    (told_of given o.pitch a.found a.start a.end (take a.nuclei l.frames) (take a.nuclei l.strengths)
+    (told_of given o.pitch (region_told a) (take a.nuclei l.frames) (take a.nuclei l.strengths)
     (take a.extras l.xframes) (take a.extras l.xstrengths) (take a.edges l.edges) (take a.boundaries l.bounds)))
     (refused_listing a.refusal)
 

@@ -2,35 +2,20 @@
 #![tactic(auto)]
 
 ghost use Rattle.std.specs.Prelude.{◌≡◌, ◌+◌, ◌*◌, ◌≤◌, [], length};
-ghost use Rattle.lists.specs.Results.{Listed};
-ghost use Rattle.chain.specs.Chain.{take_of, lists_of, chain_of};
+ghost use Rattle.chain.specs.Chain.{take_of, lists_of, marks_for, chain_of};
 ghost use Rattle.take.specs.File.{frame_count, take_in};
-ghost use Rattle.take.specs.Listing.{largest_listing};
 ghost use Rattle.report.specs.Shown.{text_of, unsampled, printed, shown, Fitting};
 
-use chain::Marks;
-use lists::blank::{blank_list, blank_track};
-use lists::sizes::smaller;
+use admit::numbers::Refusal;
+use chain::Marked;
 use region::Settings;
 use take::file::{frames_in, read_take, read_track, take_refusal};
-use take::listing::{listing, refused};
+use take::listing::{LARGEST_LISTING, listing, refused};
+use take::text::Page;
 
-fn blank_marks() -> [u8; 2048]
-    ensures { length result ≡ 2048 }
-{
-    [0u8; 2048]
-}
-
-// A take has up to one boundary more than frames.
-fn blank_bounds() -> [u32; 2049]
-    ensures { length result ≡ 2049 }
-{
-    [0u32; 2049]
-}
-
-// Writes the listing of what a call of the chain answered, or that it refused, to the front of a lent list.
+// The listing of what a call of the chain answered, or that it refused.
 fn show(
-    m: Marks,
+    answer: Result<Marked, Refusal>,
     given: &[f32],
     left: &[f32],
     frames: &[u32],
@@ -39,45 +24,41 @@ fn show(
     xstrengths: &[f32],
     edges: &[u32],
     bounds: &[u32],
-    out: &mut [u8],
-) -> usize
+) -> Page<LARGEST_LISTING>
     requires given_len { (length given.now ≡ length left.now)
         × Fitting (length left.now) (lists_of frames.now strengths.now xframes.now xstrengths.now edges.now
         bounds.now) }
-    requires largest_listing_in_bounds { largest_listing ≤ length out.old }
-    ensures { Listed (shown given.now
+    ensures { result ≡ shown given.now
         (record {
-          answer = m;
+          answer = marks_for answer;
           pitch = left.now;
           lists = (lists_of frames.now strengths.now xframes.now xstrengths.now
               edges.now bounds.now);
-        })) out.old out.new result }
+        }) }
 {
-    let number = m.refusal;
-    if number == 0 {
-        let a = smaller(m.nuclei, frames.len());
-        let b = smaller(m.extras, xframes.len());
-        let c = smaller(m.edges, edges.len());
-        let d = smaller(m.boundaries, bounds.len());
-        return listing(
-            given,
-            left,
-            m.found,
-            m.start,
-            m.end,
-            &frames[..a],
-            &strengths[..a],
-            &xframes[..b],
-            &xstrengths[..b],
-            &edges[..c],
-            &bounds[..d],
-            out,
-        );
+    match answer {
+        Ok(m) => {
+            let a = m.nuclei.min(frames.len());
+            let b = m.extras.min(xframes.len());
+            let c = m.edges.min(edges.len());
+            let d = m.boundaries.min(bounds.len());
+            listing(
+                given,
+                left,
+                m.region,
+                &frames[..a],
+                &strengths[..a],
+                &xframes[..b],
+                &xstrengths[..b],
+                &edges[..c],
+                &bounds[..d],
+            )
+        }
+        Err(refusal) => refused(refusal),
     }
-    refused(number, out)
 }
 
-// Runs the chain without samples on lent tracks and result lists, and writes the listing.
+// Runs the chain without samples on lent tracks and result lists, and gives the listing.
 fn list_marks(
     given: &[f32],
     db: &[f32],
@@ -92,25 +73,22 @@ fn list_marks(
     xstrengths: &mut [f32],
     edges: &mut [u32],
     bounds: &mut [u32],
-    out: &mut [u8],
-) -> usize
+) -> Page<LARGEST_LISTING>
     requires given_len { (length given.now ≡ length pitch.old)
         × Fitting (length pitch.old)
         (lists_of frames.old strengths.old xframes.old xstrengths.old edges.old bounds.old) }
-    requires largest_listing_in_bounds { largest_listing ≤ length out.old }
-    ensures { Listed (shown given.now
+    ensures { result ≡ shown given.now
         (chain_of (take_of db.now pitch.old voiced.now sonority.now vowel.now
         [] p) (lists_of frames.old strengths.old xframes.old xstrengths.old
-        edges.old bounds.old))) out.old out.new result }
+        edges.old bounds.old)) }
 {
-    let samples = [0i16; 1];
-    let m = chain::chain(
+    let answer = chain::chain(
         db,
         pitch,
         voiced,
         sonority,
         vowel,
-        &samples[..0],
+        &[],
         p,
         frames,
         strengths,
@@ -120,7 +98,7 @@ fn list_marks(
         bounds,
     );
     show(
-        m, given, pitch, frames, strengths, xframes, xstrengths, edges, bounds, out,
+        answer, given, pitch, frames, strengths, xframes, xstrengths, edges, bounds,
     )
 }
 
@@ -133,21 +111,19 @@ fn with_lists(
     sonority: &[f32],
     vowel: &[u8],
     p: Settings,
-    out: &mut [u8],
-) -> usize
+) -> Page<LARGEST_LISTING>
     requires given_value { (given.now ≡ pitch.old) × (length pitch.old ≤ 2048) }
-    requires largest_listing_in_bounds { largest_listing ≤ length out.old }
-    ensures { Listed (text_of
-        (take_of db.now pitch.old voiced.now sonority.now vowel.now [] p))
-        out.old out.new result }
+    ensures { result ≡ text_of
+        (take_of db.now pitch.old voiced.now sonority.now vowel.now [] p) }
 {
     let n = pitch.len();
-    let mut frames = blank_list();
-    let mut strengths = blank_track();
-    let mut xframes = blank_list();
-    let mut xstrengths = blank_track();
-    let mut edges = blank_list();
-    let mut bounds = blank_bounds();
+    let mut frames = [0u32; 2048];
+    let mut strengths = [0.0f32; 2048];
+    let mut xframes = [0u32; 2048];
+    let mut xstrengths = [0.0f32; 2048];
+    let mut edges = [0u32; 2048];
+    // A take has up to one boundary more than frames.
+    let mut bounds = [0u32; 2049];
     list_marks(
         given,
         db,
@@ -162,7 +138,6 @@ fn with_lists(
         &mut xstrengths[..n],
         &mut edges[..n],
         &mut bounds[..n + 1],
-        out,
     )
 }
 
@@ -175,33 +150,30 @@ fn on_tracks(
     voiced: &mut [f32],
     sonority: &mut [f32],
     vowel: &mut [u8],
-    out: &mut [u8],
-) -> usize
+) -> Page<LARGEST_LISTING>
     requires file_bound { (frame_count file.now ≤ 2048) × (19 + 17 * frame_count file.now ≤ length file.now) }
     requires db_len { (length db.old ≡ frame_count file.now) × (length pitch.old ≡ frame_count file.now)
         × (length voiced.old ≡ frame_count file.now) × (length sonority.old ≡ frame_count file.now)
         × (length vowel.old ≡ frame_count file.now) × (length given.old ≡ frame_count file.now) }
-    requires largest_listing_in_bounds { largest_listing ≤ length out.old }
-    ensures { Listed (text_of (unsampled (take_in file.now))) out.old out.new result }
+    ensures { result ≡ text_of (unsampled (take_in file.now)) }
 {
     read_track(file, 4, given);
     let p = read_take(file, db, pitch, voiced, sonority, vowel);
-    with_lists(given, db, pitch, voiced, sonority, vowel, p, out)
+    with_lists(given, db, pitch, voiced, sonority, vowel, p)
 }
 
 // Lends the tracks, each as long as the take.
-fn with_tracks(file: &[u8], out: &mut [u8]) -> usize
+fn with_tracks(file: &[u8]) -> Page<LARGEST_LISTING>
     requires file_bound { (frame_count file.now ≤ 2048) × (19 + 17 * frame_count file.now ≤ length file.now) }
-    requires largest_listing_in_bounds { largest_listing ≤ length out.old }
-    ensures { Listed (text_of (unsampled (take_in file.now))) out.old out.new result }
+    ensures { result ≡ text_of (unsampled (take_in file.now)) }
 {
     let n = frames_in(file);
-    let mut given = blank_track();
-    let mut db = blank_track();
-    let mut pitch = blank_track();
-    let mut voiced = blank_track();
-    let mut sonority = blank_track();
-    let mut vowel = blank_marks();
+    let mut given = [0.0f32; 2048];
+    let mut db = [0.0f32; 2048];
+    let mut pitch = [0.0f32; 2048];
+    let mut voiced = [0.0f32; 2048];
+    let mut sonority = [0.0f32; 2048];
+    let mut vowel = [0u8; 2048];
     on_tracks(
         file,
         &mut given[..n],
@@ -210,18 +182,15 @@ fn with_tracks(file: &[u8], out: &mut [u8]) -> usize
         &mut voiced[..n],
         &mut sonority[..n],
         &mut vowel[..n],
-        out,
     )
 }
 
-// Writes what `marks` prints for a file to the front of a lent list, and returns how many bytes that is.
-pub fn marks_of(file: &[u8], out: &mut [u8]) -> usize
-    requires { largest_listing ≤ length out.old }
-    ensures { Listed (printed file.now) out.old out.new result }
+// What `marks` prints for a file.
+pub fn marks_of(file: &[u8]) -> Page<LARGEST_LISTING>
+    ensures { result ≡ printed file.now }
 {
-    let number = take_refusal(file, file.len());
-    if number == 0 {
-        return with_tracks(file, out);
+    if let Err(refusal) = take_refusal(file, file.len()) {
+        return refused(refusal);
     }
-    refused(number, out)
+    with_tracks(file)
 }

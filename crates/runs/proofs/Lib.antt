@@ -1,5 +1,5 @@
+pub mod Pushing
 pub mod Spacing
-pub mod Spans
 pub mod Walking
 pub mod Syllabic
 pub mod Nearest

@@ -1,11 +1,11 @@
--- Voiced, long and syllable runs stand in order in their track, more than 3 frames apart, so that a list of the track's length has room for them; and a dropout
+-- Voiced, long and syllable runs stand in order in their track, more than 3 frames apart, so that a list of a quarter of the track's length has room for them; and a dropout
 -- is more than 3 frames wide. Assumes nothing.
 use Prim.Native.Nat.{ℕ, ◌+◌, ◌-◌, ◌*◌, ◌≤◌, ◌<◌}
 use native.Mathlib.Omega.{arith}
 use mathlib.Core.Path.{◌≡◌, refl}
 use mathlib.Core.Bool.{Bool, true, false, not, cond}
 use mathlib.Core.List.{List, [], ◌∷◌, map}
-use lib.ListN.{length, take, length-map}
+use lib.ListN.{length, length-map}
 use lib.Ieee.{Float}
 use borrow.Author.Tests.{leb-false}
 use Rattle.lists.specs.Results.{cons_if, filter}
@@ -15,9 +15,9 @@ use Rattle.lists.proofs.Entries.{each_kept}
 use Rattle.lists.proofs.Members.{keep_rises}
 use Rattle.runs.specs.declared.voiced.Run.{Run}
 use Rattle.lists.specs.Grouped.{attach, grouped}
-use Rattle.runs.specs.Runs.{Span, span, voiced, voiced_frames, sole, close, joined, voiced_runs, long, long_runs, InTrack, Spaced, SpansIn, SpansListed}
+use Rattle.runs.specs.declared.voiced.Span.{Span}
+use Rattle.runs.specs.Runs.{span, voiced, voiced_frames, sole, close, joined, voiced_runs, long, long_runs, InTrack, Spaced}
 use Rattle.runs.specs.Syllables.{breaks_from, unbroken, across, syllables_of, syllable_runs, gaps, dropouts_of, dropouts}
-use Rattle.runs.proofs.Spans.{written, holds_in}
 
 -- ---- runs that are spaced
 pub spaced_from : (lo lo' n : ℕ) (rs : List Span) → lo ≤ lo' → Spaced lo' n rs → Spaced lo n rs
@@ -72,6 +72,9 @@ module _ (pitch : List Float) where
   unfolding long_runs
   long_spaced = spaced_filter long 0 (length pitch) (voiced_runs pitch) voiced_spaced
 
+  pub long_tracked : InTrack (length pitch) (long_runs pitch)
+  long_tracked = spaced_within 0 (length pitch) (long_runs pitch) long_spaced
+
   -- ---- syllable runs
   pub grouped_spaced : (lo n : ℕ) (rs : List Span) → Spaced lo n rs → Spaced lo n (syllables_of pitch rs)
   unfolding syllables_of grouped attach
@@ -90,21 +93,15 @@ module _ (pitch : List Float) where
   unfolding syllable_runs
   syllable_spaced = grouped_spaced 0 (length pitch) (long_runs pitch) long_spaced
 
-  -- ---- a list of the track's length has room
-  pub voiced_few : length (voiced_runs pitch) ≤ length pitch
+  -- ---- a list of a quarter of the track's length has room
+  pub voiced_few : 4 * length (voiced_runs pitch) ≤ length pitch + 3
   voiced_few = omega (arith, rw length-map at (spaced_few 0 (length pitch) (map span (voiced_runs pitch)) (omega arith) voiced_spaced))
 
-  pub long_few : length (long_runs pitch) ≤ length pitch
+  pub long_few : 4 * length (long_runs pitch) ≤ length pitch + 3
   long_few = omega (arith, spaced_few 0 (length pitch) (long_runs pitch) (omega arith) long_spaced)
 
-  pub syllable_few : length (syllable_runs pitch) ≤ length pitch
+  pub syllable_few : 4 * length (syllable_runs pitch) ≤ length pitch + 3
   syllable_few = omega (arith, spaced_few 0 (length pitch) (syllable_runs pitch) (omega arith) syllable_spaced)
-
-  -- ---- the lists that the long runs are written to are lent as runs of the track
-  pub long_lent : {first₀ first last₀ last : List ℕ} {n : ℕ} → SpansListed (long_runs pitch) first₀ first last₀ last n → SpansIn (length pitch) (take n first) (take n last) × (length (take n first) ≤ length pitch)
-  long_lent l =
-      let w = written (long_runs pitch) l in
-      (holds_in (length pitch) w (spaced_within 0 (length pitch) (long_runs pitch) long_spaced), omega (arith, w.firsts_many, long_few))
 
   -- ---- dropouts
   pub dropout_wide : Each (λ g. (g.first + 3 < g.last) × (g.last < length pitch)) (dropouts pitch)

@@ -1,24 +1,24 @@
 -- Each syllable run is a union of long runs (`syllable_unions`), and the dropouts are the gaps inside syllable runs (`syllables_and_dropouts`, `dropout_inside`).
--- Then the turns of the walks over runs: the runs of one syllable run (`Joining`), the syllable runs one after the other (`Cutting`), the dropouts (`Gapping`).
--- Assumes nothing.
-use Prim.Native.Nat.{ℕ, suc, ◌+◌, ◌-◌, ◌≤◌, ◌<◌}
+-- Then the turns of the walks over runs: the syllable runs one after the other (`Joining`), and the dropouts (`Gapping`). Assumes nothing.
+use Prim.Native.Nat.{ℕ, suc, ◌+◌, ◌-◌, ◌*◌, ◌≤◌, ◌<◌}
 use native.Mathlib.Omega.{arith}
 use mathlib.Core.Path.{◌≡◌, refl, sym, ap, subst, ◌∙◌}
 use mathlib.Core.Bool.{Bool, true, false, not, cond}
-use mathlib.Core.List.{List, [], ◌∷◌}
+use mathlib.Core.List.{List, [], ◌∷◌, ◌++◌, append-nil}
 use mathlib.Core.Logic.{inl, inr}
-use lib.ListN.{length, get_or, set, drop, length-drop}
+use lib.ListN.{length, get_or, drop, length-drop}
 use lib.Ieee.{Float}
 use Rattle.lists.specs.Results.{cons_if, filter}
 use Rattle.lists.specs.By.{Each, Some}
 use Rattle.lists.proofs.Entries.{each_map}
+use Rattle.lists.proofs.Fill.{drop_step}
 use Rattle.lists.specs.Grouped.{attach, grouped, Unions}
-use Rattle.runs.specs.Runs.{Span, long_runs, spans, Spaced, SpansListed}
+use Rattle.runs.specs.declared.voiced.Span.{Span}
+use Rattle.runs.specs.Runs.{long_runs, InTrack, Spaced}
 use Rattle.runs.specs.Syllables.{breaks_from, unbroken, across, syllables_of, syllable_runs, gap, gaps, dropouts_of, dropouts}
-use Rattle.runs.specs.Ahead.{one_of, OneSyllable}
 use Rattle.lists.proofs.Grouping.{Joins, attach_join, attach_cut, grouped_unions}
 use Rattle.runs.proofs.Spacing.{grouped_spaced, long_spaced, long_few}
-use Rattle.runs.proofs.Spans.{length_spans, run_at, spans_from, spans_step, spans_over, SpansFilling, spans_start, spans_fit, spans_push, spans_end}
+use Rattle.runs.proofs.Pushing.{push_room, push_on}
 
 -- ---- one syllable run
 module _ (pitch : List Float) where
@@ -55,7 +55,7 @@ module _ (pitch : List Float) where
   syllables_and_dropouts [] = refl
   syllables_and_dropouts (r ∷ rs) = count_from r rs
 
-  pub dropout_few : length (dropouts pitch) ≤ length pitch
+  pub dropout_few : 4 * length (dropouts pitch) ≤ length pitch + 3
   unfolding dropouts
   dropout_few = omega (arith, syllables_and_dropouts (long_runs pitch), long_few pitch)
 
@@ -102,129 +102,89 @@ module _ (pitch : List Float) where
       go [] s = tt
       go (r ∷ rs) s = inside_from 0 (length pitch) r rs s
 
-  module _ (fs ls : List ℕ) where
-    abbrev pub syllables_from : ℕ → List Span
-    syllables_from k = syllables_of pitch (spans_from fs ls k)
+  -- ---- the runs that are left come after the syllable runs so far, and `group`, of which the next one may be a part
+  pub record Joining (runs left done : List Span) (group : Span) : Type 0 where
+    pub within : group.last < length pitch
+    pub left_within : InTrack (length pitch) left
+    pub whole : done ++ attach (unbroken pitch) across group (syllables_of pitch left) ≡ syllables_of pitch runs
 
-    pub record Joining (k end : ℕ) : Type 0 where
-      pub past : k < end
-      pub within : end ≤ length fs
-      pub whole : syllables_from k ≡ attach (unbroken pitch) across (one_of fs ls k end) (syllables_from end)
+  syllables_few : (runs : List Span) → length (syllables_of pitch runs) ≤ length runs
+  syllables_few runs = omega (arith, syllables_and_dropouts runs)
 
-    pub joining_start : length fs ≡ length ls → (k : ℕ) → k < length fs → Joining k (k + 1)
-    unfolding syllables_of grouped
-    joining_start same k h =
-        let e : k + 1 - 1 ≡ k = omega arith in
-        record { past = omega arith; within = omega arith; whole = rw (e, spans_step fs ls k h (omega arith)) }
+  pub joining_start : (r : Span) (rs : List Span) → InTrack (length pitch) (r ∷ rs) → Joining (r ∷ rs) rs [] r
+  unfolding syllables_of grouped
+  joining_start r rs w = record { within = w.0.1; left_within = w.1; whole = refl }
 
-    module _ (same : length fs ≡ length ls) {k end : ℕ} (j : Joining k end) where
-      pub joining_on : end < length fs → breaks_from pitch (get_or ls (end - 1) 0) (get_or fs end 0) ≡ false → Joining k (end + 1)
+  module _ {runs left rest done : List Span} {group : Span} (r : Span) (e : left ≡ r ∷ rest) (j : Joining runs left done group) where
+    tracked : InTrack (length pitch) (r ∷ rest)
+    tracked = rw e at j.left_within
+
+    whole : done ++ attach (unbroken pitch) across group (syllables_of pitch (r ∷ rest)) ≡ syllables_of pitch runs
+    whole = rw e at j.whole
+
+    pub joining_on : breaks_from pitch group.last r.first ≡ false → Joining runs rest done (across group r)
+    unfolding syllables_of
+    joining_on b = record { within = tracked.0.1; left_within = tracked.1; whole = ap (λ (rs : List Span). done ++ rs) (sym (attach_join (unbroken pitch) across spans_join group r rest (rw b))) ∙ whole }
+
+    module _ (b : breaks_from pitch group.last r.first ≡ true) where
+      cut : done ++ (group ∷ syllables_of pitch (r ∷ rest)) ≡ syllables_of pitch runs
       unfolding syllables_of
-      joining_on h b =
-          let e : end + 1 - 1 ≡ end = omega arith in
-          record {
-            past = omega (arith, j.past);
-            within = omega arith;
-            whole = j.whole
-                ∙ ap (λ (rs : List Span). attach (unbroken pitch) across (one_of fs ls k end) (grouped (unbroken pitch) across rs)) (spans_step fs ls end h (omega arith))
-                ∙ attach_join (unbroken pitch) across spans_join (one_of fs ls k end) (run_at fs ls end) (spans_from fs ls (end + 1)) (rw b)
-                ∙ rw e;
-          }
+      cut = ap (λ (rs : List Span). done ++ rs) (sym (attach_cut (unbroken pitch) across spans_join group r rest (rw b))) ∙ whole
 
-      pub joining_cut : end < length fs → breaks_from pitch (get_or ls (end - 1) 0) (get_or fs end 0) ≡ true → OneSyllable pitch fs ls k end
-      unfolding syllables_of
-      joining_cut h b =
-          let s = spans_step fs ls end h (omega arith) in
-          record {
-            past = j.past;
-            within = j.within;
-            split = j.whole
-                ∙ ap (λ (rs : List Span). attach (unbroken pitch) across (one_of fs ls k end) (grouped (unbroken pitch) across rs)) s
-                ∙ attach_cut (unbroken pitch) across spans_join (one_of fs ls k end) (run_at fs ls end) (spans_from fs ls (end + 1)) (rw b)
-                ∙ ap (λ (rs : List Span). one_of fs ls k end ∷ grouped (unbroken pitch) across rs) (sym s);
-          }
+      pub joining_room : length done < length runs
+      joining_room = push_room _ _ _ cut (length runs) (syllables_few runs)
 
-      pub joining_end : length fs ≤ end → OneSyllable pitch fs ls k end
-      unfolding syllables_of grouped attach
-      joining_end h = record { past = j.past; within = j.within; split = j.whole ∙ rw (spans_over fs ls end h) }
-
-    -- ---- syllable runs, one after the other
-    module _ (heads₀ tails₀ : List ℕ) where
-      pub record Cutting (heads tails : List ℕ) (n k : ℕ) : Type 0 where
-        pub within : k ≤ length fs
-        pub ends : SpansFilling (syllables_of pitch (spans fs ls)) (syllables_from k) heads₀ heads tails₀ tails n
-
-      pub cutting_start : length fs ≤ length heads₀ → length fs ≤ length tails₀ → Cutting heads₀ tails₀ 0 0
-      cutting_start p q =
-          let c = syllables_and_dropouts (spans fs ls) in
-          let l = length_spans fs ls in
-          record { within = omega arith; ends = spans_start _ _ _ (omega arith) (omega arith) }
-
-      module _ {heads tails : List ℕ} {n k : ℕ} (end : ℕ) (e : OneSyllable pitch fs ls k end) (g : Cutting heads tails n k) where
-        now : SpansFilling (syllables_of pitch (spans fs ls)) (one_of fs ls k end ∷ syllables_from end) heads₀ heads tails₀ tails n
-        now = rw e.split at g.ends
-
-        pub cutting_room : (n < length heads) × (n < length tails) × (length heads ≡ length heads₀) × (length tails ≡ length tails₀)
-        cutting_room = spans_fit now
-
-        pub cutting_on : Cutting (set heads n (get_or fs k 0)) (set tails n (get_or ls (end - 1) 0)) (n + 1) end
-        cutting_on = record { within = e.within; ends = spans_push now }
-
-      pub cutting_end : {heads tails : List ℕ} {n k : ℕ} → length fs ≤ k → Cutting heads tails n k → SpansListed (syllables_of pitch (spans fs ls)) heads₀ heads tails₀ tails n
+      pub joining_cut : Joining runs rest (done ++ (group ∷ [])) r
       unfolding syllables_of grouped
-      cutting_end {heads} {tails} {n} {k} h g = spans_end (rw (spans_over fs ls k h) at g.ends)
+      joining_cut = record { within = tracked.0.1; left_within = tracked.1; whole = push_on _ _ _ cut }
 
-    -- ---- dropouts, one after the other
-    abbrev pub dropouts_from : ℕ → List Span
-    dropouts_from k = dropouts_of pitch (spans_from fs ls k)
+  module _ {runs left done : List Span} {group : Span} (e : left ≡ []) (j : Joining runs left done group) where
+    pub joining_end : done ++ (group ∷ []) ≡ syllables_of pitch runs
+    unfolding syllables_of grouped attach
+    joining_end = rw e at j.whole
 
-    abbrev pub gap_at : ℕ → Span
-    gap_at i = record { first = get_or ls (i - 1) 0; last = get_or fs i 0 }
+    pub joining_end_room : length done < length runs
+    joining_end_room = push_room _ _ _ joining_end (length runs) (syllables_few runs)
 
-    module _ (before₀ after₀ : List ℕ) where
-      pub record Gapping (before after : List ℕ) (n i : ℕ) : Type 0 where
-        pub past : 0 < i
-        pub ends : SpansFilling (dropouts_of pitch (spans fs ls)) (dropouts_from (i - 1)) before₀ before after₀ after n
+  -- ---- the dropouts so far, and those among the runs that are left, from the one before the i-th on
+  module _ (runs : List Span) where
+    pub record Gapping (done : List Span) (i : ℕ) : Type 0 where
+      pub whole : done ++ dropouts_of pitch (drop (i - 1) runs) ≡ dropouts_of pitch runs
 
-      pub gapping_start : length fs ≤ length before₀ → length fs ≤ length after₀ → Gapping before₀ after₀ 0 1
-      gapping_start p q =
-          let c = syllables_and_dropouts (spans fs ls) in
-          let l = length_spans fs ls in
-          record { past = omega arith; ends = spans_start _ _ _ (omega arith) (omega arith) }
+    abbrev run_at : ℕ → Span
+    run_at i = get_or runs i (record { first = 0; last = 0 })
 
-      module _ (same : length fs ≡ length ls) {before after : List ℕ} {n i : ℕ} (g : Gapping before after n i) where
-        abbrev kept : Bool
-        kept = not (breaks_from pitch (get_or ls (i - 1) 0) (get_or fs i 0))
+    module _ {done : List Span} {i : ℕ} (past : 0 < i) (h : i < length runs) (g : Gapping done i) where
+      abbrev kept : Bool
+      kept = not (breaks_from pitch (run_at (i - 1)).last (run_at i).first)
 
-        next : i < length fs → dropouts_from (i - 1) ≡ cons_if kept (gap_at i) (dropouts_from i)
-        unfolding dropouts_of gaps filter
-        next h =
-            let e : i - 1 + 1 ≡ i = omega (arith, g.past) in
-            rw (spans_step fs ls (i - 1) (omega arith) (omega arith), e, spans_step fs ls i h (omega arith))
+      now : done ++ cons_if kept (gap (run_at (i - 1)) (run_at i)) (dropouts_of pitch (drop i runs)) ≡ dropouts_of pitch runs
+      unfolding dropouts_of gaps filter
+      now =
+          let e : i - 1 + 1 ≡ i = omega arith in
+          let f : drop i runs ≡ run_at i ∷ drop (i + 1) runs = drop_step runs i (record { first = 0; last = 0 }) h in
+          rw f (rw (drop_step runs (i - 1) (record { first = 0; last = 0 }) (omega arith), e, f) at g.whole)
 
-        back : i + 1 - 1 ≡ i
-        back = omega arith
+      back : i + 1 - 1 ≡ i
+      back = omega arith
 
-        here : i < length fs → kept ≡ true → SpansFilling (dropouts_of pitch (spans fs ls)) (gap_at i ∷ dropouts_from i) before₀ before after₀ after n
-        here h e = rw (next h, e) at g.ends
+      here : kept ≡ true → done ++ (gap (run_at (i - 1)) (run_at i) ∷ dropouts_of pitch (drop i runs)) ≡ dropouts_of pitch runs
+      here e = rw e at now
 
-        pub gapping_room : i < length fs → kept ≡ true → (n < length before) × (n < length after) × (length before ≡ length before₀) × (length after ≡ length after₀)
-        gapping_room h e = spans_fit (here h e)
+      pub gapping_room : kept ≡ true → length done < length runs
+      gapping_room e = push_room _ _ _ (here e) (length runs) (omega (arith, syllables_and_dropouts runs))
 
-        pub gapping_yes : i < length fs → kept ≡ true → Gapping (set before n (get_or ls (i - 1) 0)) (set after n (get_or fs i 0)) (n + 1) (i + 1)
-        gapping_yes h e = record { past = omega arith; ends = rw back (spans_push (here h e)) }
+      pub gapping_yes : kept ≡ true → Gapping (done ++ (gap (run_at (i - 1)) (run_at i) ∷ [])) (i + 1)
+      gapping_yes e = record { whole = rw back (push_on _ _ _ (here e)) }
 
-        pub gapping_no : i < length fs → kept ≡ false → Gapping before after n (i + 1)
-        gapping_no h e = record { past = omega arith; ends = rw back (rw (next h, e) at g.ends) }
+      pub gapping_no : kept ≡ false → Gapping done (i + 1)
+      gapping_no e = record { whole = rw back (rw e at now) }
 
-        over : length fs ≤ i → dropouts_from (i - 1) ≡ []
-        unfolding dropouts_of gaps filter spans
-        over h = go (spans_from fs ls (i - 1)) (omega (arith, length_spans (drop (i - 1) fs) (drop (i - 1) ls), length-drop (i - 1) fs))
-          where
-            go : (r : List Span) → length r ≤ 1 → dropouts_of pitch r ≡ []
-            go [] k = refl
-            go (a ∷ []) k = refl
-            go (a ∷ b ∷ r) k = absurd (omega arith)
-
-        pub gapping_end : length fs ≤ i → SpansListed (dropouts_of pitch (spans fs ls)) before₀ before after₀ after n
-        gapping_end h = spans_end (rw (over h) at g.ends)
+    pub gapping_end : {done : List Span} {i : ℕ} → length runs ≤ i → Gapping done i → done ≡ dropouts_of pitch runs
+    unfolding dropouts_of gaps filter
+    gapping_end {done} {i} h g = sym (append-nil done) ∙ rw (over (drop (i - 1) runs) (omega (arith, length-drop (i - 1) runs))) at g.whole
+      where
+        over : (rs : List Span) → length rs ≤ 1 → dropouts_of pitch rs ≡ []
+        over [] k = refl
+        over (a ∷ []) k = refl
+        over (a ∷ b ∷ rs) k = absurd (omega arith)

@@ -1,29 +1,27 @@
 -- Each voiced run is a union of voiced frames (`voiced_unions`). Then the turns of the walks over a pitch track: the next voiced frame, the run that begins with it
--- (`Growing`), and the runs written one after the other (`Running`, `RunningLong`). Assumes nothing.
-use Prim.Native.Nat.{ℕ, ◌+◌, ◌-◌, ◌≤◌, ◌<◌, min}
+-- (`Growing`), and the runs one after the other (`Running`, `RunningLong`). Assumes nothing.
+use Prim.Native.Nat.{ℕ, ◌+◌, ◌-◌, ◌/◌, ◌≤◌, ◌<◌}
 use native.Mathlib.Omega.{arith}
 use native.Mathlib.Nat.{sub-zero, add_assoc}
 use mathlib.Core.Path.{◌≡◌, refl, sym, ap, ◌∙◌}
-use mathlib.Core.Bool.{Bool, true, false, cond}
-use mathlib.Core.List.{List, [], ◌∷◌, map}
-use lib.ListN.{length, get_or, set, length-map}
+use mathlib.Core.Bool.{Bool, true, false, cond, ◌||◌}
+use mathlib.Core.List.{List, [], ◌∷◌, ◌++◌, append-nil, map}
+use lib.ListN.{length, get_or}
 use lib.Ieee.{Float, nan, ne}
-use lib.Bits.{bit_or}
-use lib.Dec.{ltb}
-use borrow.Author.Tests.{le-leb, lt-leb, ltb-true, ltb-false}
+use borrow.Author.Tests.{le-leb, lt-leb}
 use Rattle.floats.specs.Plain.{zero_f}
-use Rattle.lists.specs.Results.{Pushed, cons_if, more_if, filter}
+use Rattle.lists.specs.Results.{cons_if, filter}
 use Rattle.lists.specs.Sorted.{StrictlyRises}
-use Rattle.lists.proofs.Fill.{Filling, fill_start, fill_push, fill_fits, fill_end, map_cons_if, keep_step, keep_over}
+use Rattle.lists.proofs.Fill.{map_cons_if, keep_step, keep_over}
 use Rattle.lists.proofs.Members.{keep_rises}
-use Rattle.lists.proofs.Counting.{neither}
 use Rattle.runs.specs.declared.voiced.Run.{Run}
 use Rattle.lists.specs.Grouped.{attach, grouped, Unions}
-use Rattle.runs.specs.Runs.{span, voiced, voiced_frames, sole, close, joined, voiced_runs, long, long_runs, SpansListed, RunsListed}
+use Rattle.runs.specs.declared.voiced.Span.{Span}
+use Rattle.runs.specs.Runs.{span, voiced, voiced_frames, sole, close, joined, voiced_runs, long, long_runs}
 use Rattle.runs.specs.Ahead.{frames_from, runs_from, NextVoiced}
 use Rattle.lists.proofs.Grouping.{Joins, attach_join, attach_cut, grouped_unions}
 use Rattle.runs.proofs.Spacing.{voiced_few, long_few}
-use Rattle.runs.proofs.Spans.{SpansFilling, spans_start, spans_fit, spans_push, spans_fit_if, spans_pushed, spans_end}
+use Rattle.runs.proofs.Pushing.{push_room, push_on}
 
 pub runs_join : Joins close joined
 runs_join = record {
@@ -41,9 +39,10 @@ module _ (pitch : List Float) where
   pub none_here : (i : ℕ) → i < length pitch → voiced pitch i ≡ false → frames_from pitch i ≡ frames_from pitch (i + 1)
   none_here i h e = rw (keep_step (voiced pitch) i (length pitch) h, e)
 
-  -- a: whether a frame from j to before k is voiced
-  pub none_more : (j k a : ℕ) {r : ℕ} → k < length pitch → r ≡ more_if (voiced pitch k) 0 → (a ≡ 0 → frames_from pitch j ≡ frames_from pitch k) → bit_or a r ≡ 0 → frames_from pitch j ≡ frames_from pitch (k + 1)
-  none_more j k a h e f z = let n = neither (voiced pitch k) a e z in f n.0 ∙ none_here k h n.1
+  -- any: whether a frame from j to before k is voiced
+  pub none_more : (j k : ℕ) (any : Bool) {here : Bool} → k < length pitch → here ≡ voiced pitch k → (any ≡ false → frames_from pitch j ≡ frames_from pitch k) → any || here ≡ false → frames_from pitch j ≡ frames_from pitch (k + 1)
+  none_more j k false h e f z = f refl ∙ none_here k h (sym e ∙ z)
+  none_more j k true h e f z = absurd (cc)
 
   one_here : (i : ℕ) → i < length pitch → voiced pitch i ≡ true → frames_from pitch i ≡ i ∷ frames_from pitch (i + 1)
   one_here i h e = rw (keep_step (voiced pitch) i (length pitch) h, e)
@@ -61,20 +60,18 @@ module _ (pitch : List Float) where
   runs_all = rw sub-zero
 
   -- ---- a run grows
-  pub record Growing (f : ℕ) (run : Run) (end i : ℕ) : Type 0 where
-    pub within : i ≤ end
-    pub reach : end ≡ min (run.last + 4) (length pitch)
+  pub record Growing (f : ℕ) (run : Run) (i : ℕ) : Type 0 where
+    pub within : i ≤ length pitch
     pub past : run.last < i
     pub begun : f ≤ run.last
     pub few : run.size ≤ i
     pub same : attach close joined run (runs_from pitch i) ≡ runs_from pitch f
     pub silent : frames_from pitch (run.last + 1) ≡ frames_from pitch i
 
-  pub growing_start : (f end : ℕ) → f < length pitch → voiced pitch f ≡ true → end ≡ min (f + 4) (length pitch) → Growing f (sole f) end (f + 1)
+  pub growing_start : (f : ℕ) → f < length pitch → voiced pitch f ≡ true → Growing f (sole f) (f + 1)
   unfolding runs_from grouped
-  growing_start f end h v e = record {
+  growing_start f h v = record {
     within = omega arith;
-    reach = e;
     past = omega arith;
     begun = omega arith;
     few = omega arith;
@@ -82,33 +79,26 @@ module _ (pitch : List Float) where
     silent = refl;
   }
 
-  module _ {f : ℕ} {run : Run} {end i : ℕ} (g : Growing f run end i) where
-    pub growing_on : i < end → (run' : Run) (end' : ℕ) → run' ≡ cond (ne (get_or pitch i nan) zero_f) (joined run (sole i)) run → end' ≡ min (run'.last + 4) (length pitch) → Growing f run' end' (i + 1)
+  module _ {f : ℕ} {run : Run} {i : ℕ} (g : Growing f run i) where
+    pub growing_on : i < length pitch → i ≤ run.last + 3 → (run' : Run) → run' ≡ cond (ne (get_or pitch i nan) zero_f) (joined run (sole i)) run → Growing f run' (i + 1)
     unfolding runs_from
-    growing_on h run' end' p q = go (voiced pitch i) refl
+    growing_on here near run' p = go (voiced pitch i) refl
       where
-        here : i < length pitch
-        here = omega (arith, g.reach)
-
-        go : (b : Bool) → voiced pitch i ≡ b → Growing f run' end' (i + 1)
+        go : (b : Bool) → voiced pitch i ≡ b → Growing f run' (i + 1)
         go true e =
             let r : run' ≡ joined run (sole i) = rw e at p in
-            let m : end' ≡ min (i + 4) (length pitch) = rw r at q in
             rw r (record {
               within = omega arith;
-              reach = m;
               past = omega arith;
               begun = omega (arith, g.begun, g.past);
               few = omega (arith, g.few);
-              same = sym (attach_join close joined runs_join run (sole i) (map sole (frames_from pitch (i + 1))) (le-leb (i - run.last) 3 (omega (arith, g.reach, g.past)))) ∙ ap (λ (fs : List ℕ). attach close joined run (grouped close joined (map sole fs))) (sym (one_here i here e)) ∙ g.same;
+              same = sym (attach_join close joined runs_join run (sole i) (map sole (frames_from pitch (i + 1))) (le-leb (i - run.last) 3 (omega (arith, g.past)))) ∙ ap (λ (fs : List ℕ). attach close joined run (grouped close joined (map sole fs))) (sym (one_here i here e)) ∙ g.same;
               silent = refl;
             })
         go false e =
             let r : run' ≡ run = rw e at p in
-            let m : end' ≡ min (run.last + 4) (length pitch) = rw r at q in
             rw r (record {
-              within = omega (arith, g.reach);
-              reach = m;
+              within = omega arith;
               past = omega (arith, g.past);
               begun = g.begun;
               few = omega (arith, g.few);
@@ -121,83 +111,74 @@ module _ (pitch : List Float) where
     cut lo n [] h s = refl
     cut lo n (k ∷ fs) h s = attach_cut close joined runs_join run (sole k) (map sole fs) (lt-leb (k - run.last) 3 (omega (arith, s.0)))
 
-    ends : end ≤ i → attach close joined run (runs_from pitch i) ≡ run ∷ runs_from pitch i
-    unfolding runs_from attach grouped
-    ends h = go (ltb i (length pitch)) refl
-      where
-        go : (b : Bool) → ltb i (length pitch) ≡ b → attach close joined run (grouped close joined (map sole (frames_from pitch i))) ≡ run ∷ grouped close joined (map sole (frames_from pitch i))
-        go true e =
-            let h' : i < length pitch = ltb-true i (length pitch) e in
-            cut i (length pitch) (frames_from pitch i) (omega (arith, g.reach)) (keep_rises (voiced pitch) (length pitch) i (length pitch - i) (omega arith))
-        go false e = rw (keep_over (voiced pitch) i (length pitch) (ltb-false i (length pitch) e))
+    parted : attach close joined run (runs_from pitch i) ≡ run ∷ runs_from pitch i → (runs_from pitch f ≡ run ∷ runs_from pitch (run.last + 1)) × (f ≤ run.last) × (run.last < length pitch)
+    parted e = (sym g.same ∙ e ∙ ap (λ (rs : List Run). run ∷ rs) (sym (runs_same (run.last + 1) i g.silent)), g.begun, omega (arith, g.past, g.within))
 
-    pub growing_end : end ≤ i → (runs_from pitch f ≡ run ∷ runs_from pitch (run.last + 1)) × (f ≤ run.last) × (run.last < length pitch)
-    growing_end h = (sym g.same ∙ ends h ∙ ap (λ (rs : List Run). run ∷ rs) (sym (runs_same (run.last + 1) i g.silent)), g.begun, omega (arith, g.past, g.reach, g.within))
+    -- nothing more joins it: a voiced frame from here on is too far away
+    pub growing_far : run.last + 3 < i → (runs_from pitch f ≡ run ∷ runs_from pitch (run.last + 1)) × (f ≤ run.last) × (run.last < length pitch)
+    unfolding runs_from
+    growing_far h = parted (cut i (length pitch) (frames_from pitch i) h (keep_rises (voiced pitch) (length pitch) i (length pitch - i) (omega (arith, g.within))))
 
-  -- ---- the runs are written one after the other
-  module _ (first₀ last₀ : List ℕ) where
-    pub record Running (size₀ first last size : List ℕ) (n i : ℕ) : Type 0 where
-      pub within : i ≤ length pitch
-      pub here : i < length pitch → voiced pitch i ≡ true
-      pub ends : SpansFilling (map span (voiced_runs pitch)) (map span (runs_from pitch i)) first₀ first last₀ last n
-      pub sizes : Filling (map (λ (r : Run). r.size) (voiced_runs pitch)) (map (λ (r : Run). r.size) (runs_from pitch i)) size₀ size n
+    -- or the track ends
+    pub growing_over : length pitch ≤ i → (runs_from pitch f ≡ run ∷ runs_from pitch (run.last + 1)) × (f ≤ run.last) × (run.last < length pitch)
+    unfolding attach
+    growing_over h = parted (rw (runs_over i h))
 
-    pub record RunningLong (first last : List ℕ) (n i : ℕ) : Type 0 where
-      pub within : i ≤ length pitch
-      pub here : i < length pitch → voiced pitch i ≡ true
-      pub ends : SpansFilling (long_runs pitch) (map span (filter long (runs_from pitch i))) first₀ first last₀ last n
+  -- ---- the runs one after the other: those so far, and what is left
+  pub record Running (runs : List Run) (i : ℕ) : Type 0 where
+    pub within : i ≤ length pitch
+    pub here : i < length pitch → voiced pitch i ≡ true
+    pub whole : runs ++ runs_from pitch i ≡ voiced_runs pitch
 
-    module _ (p : length pitch ≤ length first₀) (q : length pitch ≤ length last₀) {i : ℕ} (v : NextVoiced pitch 0 i) where
-      at_start : voiced_runs pitch ≡ runs_from pitch i
-      at_start = sym runs_all ∙ runs_same 0 i v.same
+  pub record RunningLong (runs : List Span) (i : ℕ) : Type 0 where
+    pub within : i ≤ length pitch
+    pub here : i < length pitch → voiced pitch i ≡ true
+    pub whole : runs ++ map span (filter long (runs_from pitch i)) ≡ long_runs pitch
 
-      pub running_start : (size₀ : List ℕ) → length pitch ≤ length size₀ → Running size₀ first₀ last₀ size₀ 0 i
-      running_start size₀ r =
-          let few : length (map span (voiced_runs pitch)) ≤ length pitch = rw length-map (voiced_few pitch) in
-          record {
-            within = v.within;
-            here = v.here;
-            ends = rw (← at_start) (spans_start _ _ _ (omega arith) (omega arith));
-            sizes = rw (← at_start) (fill_start _ _ (rw length-map (omega (arith, voiced_few pitch))));
-          }
+  module _ {i : ℕ} (v : NextVoiced pitch 0 i) where
+    at_start : runs_from pitch i ≡ voiced_runs pitch
+    at_start = sym (runs_same 0 i v.same) ∙ runs_all
 
-      pub running_long_start : RunningLong first₀ last₀ 0 i
-      unfolding long_runs
-      running_long_start = record { within = v.within; here = v.here; ends = rw (← at_start) (spans_start _ _ _ (omega (arith, long_few pitch)) (omega (arith, long_few pitch))) }
+    pub running_start : Running [] i
+    running_start = record { within = v.within; here = v.here; whole = at_start }
 
-    module _ {i : ℕ} (run : Run) (e : runs_from pitch i ≡ run ∷ runs_from pitch (run.last + 1)) where
-      module _ {size₀ first last size : List ℕ} {n : ℕ} (g : Running size₀ first last size n i) where
-        ends_now : SpansFilling (map span (voiced_runs pitch)) (span run ∷ map span (runs_from pitch (run.last + 1))) first₀ first last₀ last n
-        ends_now = rw e at g.ends
+    pub running_long_start : RunningLong [] i
+    unfolding long_runs
+    running_long_start = record { within = v.within; here = v.here; whole = rw at_start }
 
-        sizes_now : Filling (map (λ (r : Run). r.size) (voiced_runs pitch)) (run.size ∷ map (λ (r : Run). r.size) (runs_from pitch (run.last + 1))) size₀ size n
-        sizes_now = rw e at g.sizes
+  module _ {i : ℕ} (run : Run) (e : runs_from pitch i ≡ run ∷ runs_from pitch (run.last + 1)) where
+    module _ {runs : List Run} (g : Running runs i) where
+      now : runs ++ (run ∷ runs_from pitch (run.last + 1)) ≡ voiced_runs pitch
+      now = rw e at g.whole
 
-        pub running_room : (n < length first) × (n < length last) × (n < length size)
-        running_room = ((spans_fit ends_now).0, (spans_fit ends_now).1, (fill_fits sizes_now).0)
+      pub running_room : length runs < (length pitch + 3) / 4
+      running_room = push_room _ _ _ now ((length pitch + 3) / 4) (omega (arith, voiced_few pitch))
 
-        pub running_on : {i' : ℕ} → NextVoiced pitch (run.last + 1) i' → Running size₀ (set first n run.first) (set last n run.last) (set size n run.size) (n + 1) i'
-        running_on {i'} v =
-            let s = runs_same (run.last + 1) i' v.same in
-            record { within = v.within; here = v.here; ends = rw s at (spans_push ends_now); sizes = rw s at (fill_push sizes_now) }
+      pub running_on : {k : ℕ} → NextVoiced pitch (run.last + 1) k → Running (runs ++ (run ∷ [])) k
+      running_on {k} v = record { within = v.within; here = v.here; whole = rw (runs_same (run.last + 1) k v.same) at (push_on _ _ _ now) }
 
-      module _ {first last : List ℕ} {n : ℕ} (g : RunningLong first last n i) where
-        ends_next : SpansFilling (long_runs pitch) (cons_if (long run) (span run) (map span (filter long (runs_from pitch (run.last + 1))))) first₀ first last₀ last n
-        unfolding filter
-        ends_next = simp (e, map_cons_if) at g.ends
-
-        pub running_long_room : long run ≡ true → (n < length first) × (n < length last)
-        running_long_room = spans_fit_if (long run) (span run) _ ends_next
-
-        pub running_long_on : {first' last' : List ℕ} {n' i' : ℕ} → Pushed (long run) run.first n first first' n' × Pushed (long run) run.last n last last' n' → NextVoiced pitch (run.last + 1) i' → RunningLong first' last' n' i'
-        running_long_on {first'} {last'} {n'} {i'} p v = record { within = v.within; here = v.here; ends = rw (runs_same (run.last + 1) i' v.same) at (spans_pushed (long run) (span run) _ ends_next p) }
-
-    module _ {first last : List ℕ} {n i : ℕ} (h : length pitch ≤ i) where
-      pub running_end : {size₀ size : List ℕ} → Running size₀ first last size n i → RunsListed (voiced_runs pitch) first₀ first last₀ last size₀ size n
-      running_end g =
-          let s = spans_end (rw (runs_over i h) at g.ends) in
-          (s.0, s.1, fill_end (rw (runs_over i h) at g.sizes))
-
-      pub running_long_end : RunningLong first last n i → SpansListed (long_runs pitch) first₀ first last₀ last n
+    module _ {runs : List Span} (g : RunningLong runs i) where
+      now_long : runs ++ cons_if (long run) (span run) (map span (filter long (runs_from pitch (run.last + 1)))) ≡ long_runs pitch
       unfolding filter
-      running_long_end g = spans_end (rw (runs_over i h) at g.ends)
+      now_long = simp (e, map_cons_if) at g.whole
+
+      next_long : long run ≡ true → runs ++ (span run ∷ map span (filter long (runs_from pitch (run.last + 1)))) ≡ long_runs pitch
+      next_long l = rw l at now_long
+
+      pub running_long_room : long run ≡ true → length runs < (length pitch + 3) / 4
+      running_long_room l = push_room _ _ _ (next_long l) ((length pitch + 3) / 4) (omega (arith, long_few pitch))
+
+      module _ {k : ℕ} (v : NextVoiced pitch (run.last + 1) k) where
+        pub running_long_on : long run ≡ true → RunningLong (runs ++ (span run ∷ [])) k
+        running_long_on l = record { within = v.within; here = v.here; whole = rw (runs_same (run.last + 1) k v.same) at (push_on _ _ _ (next_long l)) }
+
+        pub running_short : long run ≡ false → RunningLong runs k
+        running_short l = record { within = v.within; here = v.here; whole = rw (l, runs_same (run.last + 1) k v.same) at now_long }
+
+  module _ {i : ℕ} (h : length pitch ≤ i) where
+    pub running_end : {runs : List Run} → Running runs i → runs ≡ voiced_runs pitch
+    running_end {runs} g = sym (append-nil runs) ∙ rw (runs_over i h) at g.whole
+
+    pub running_long_end : {runs : List Span} → RunningLong runs i → runs ≡ long_runs pitch
+    unfolding filter
+    running_long_end {runs} g = sym (append-nil runs) ∙ rw (runs_over i h) at g.whole

@@ -1,44 +1,42 @@
 -- Which run a frame belongs to. Definitions only.
-use Rattle.std.specs.Prelude.{ℕ, ◌+◌, ◌-◌, ◌≤◌, ◌<◌, max, ◌≡◌, Bool, true, false, not, cond, List, [], ◌∷◌, ◌++◌, eqb, length}
+use Rattle.std.specs.Prelude.{ℕ, ◌+◌, ◌-◌, ◌≤◌, ◌<◌, max, ◌≡◌, Bool, false, not, cond, List, [], ◌∷◌, ◌++◌, eqb, length, Option, None, Some}
 use Rattle.lists.specs.By.{Each}
-use Rattle.runs.specs.Runs.{Span}
+use Rattle.runs.specs.declared.voiced.Span.{Span}
 use Rattle.runs.specs.declared.near.Found.{Found}
-use Rattle.runs.specs.declared.near.Found.TheVariants.{At, Nothing}
 
 -- how far a frame lies outside a run
 abbrev pub distance : Span → ℕ → ℕ
 distance r at = max (r.first - at) (at - r.last)
 
--- of runs, numbered from k, the first that is d frames away from a frame: its index, its first and its last frame
-unfoldable pub away_by : ℕ → ℕ → ℕ → List Span → Found
-away_by d at k [] = Nothing
-away_by d at k (r ∷ rs) = cond (eqb (distance r at) d) (At k r.first r.last) (away_by d at (k + 1) rs)
+-- the run r, which has number k
+abbrev pub at_number : ℕ → Span → Found
+at_number k r = record { number = k; run = r }
+
+-- of runs, numbered from k, the first that is d frames away from a frame: its number, and the run
+unfoldable pub away_by : ℕ → ℕ → ℕ → List Span → Option Found
+away_by d at k [] = None
+away_by d at k (r ∷ rs) = cond (eqb (distance r at) d) (Some (at_number k r)) (away_by d at (k + 1) rs)
 
 -- what is found first, or else what is found second
 infixl 40 ◌or_else◌
-abbrev pub ◌or_else◌ : Found → Found → Found
-At k first last or_else other = At k first last
-Nothing or_else other = other
+abbrev pub ◌or_else◌ : Option Found → Option Found → Option Found
+Some f or_else other = Some f
+None or_else other = other
 
 -- the run that a frame belongs to: the first that it lies in, or else the first that is 1 frame away, or else the first that is 2 away
-unfoldable pub run_of : List Span → ℕ → Found
+unfoldable pub run_of : List Span → ℕ → Option Found
 run_of rs at = away_by 0 at 0 rs or_else away_by 1 at 0 rs or_else away_by 2 at 0 rs
 
--- a run is found
-abbrev pub found : Found → Bool
-found (At k first last) = true
-found Nothing = false
-
 -- the number of the run that is found
-abbrev pub number_of : Found → ℕ
-number_of (At k first last) = k
-number_of Nothing = 0
+abbrev pub number_of : Option Found → ℕ
+number_of (Some f) = f.number
+number_of None = 0
 
 -- two different runs are found
-abbrev pub differ : Found → Found → Bool
-differ (At x f l) (At y g m) = not (eqb x y)
-differ (At x f l) Nothing = false
-differ Nothing f = false
+abbrev pub differ : Option Found → Option Found → Bool
+differ (Some f) (Some g) = not (eqb f.number g.number)
+differ (Some f) None = false
+differ None g = false
 
 -- two frames belong to two different runs
 unfoldable pub separate : List Span → ℕ → ℕ → Bool
@@ -56,6 +54,6 @@ pub record Nearest (at : ℕ) (rs : List Span) (k : ℕ) (r : Span) : Type 0 whe
   pub no_nearer : Each (λ s. distance r at ≤ distance s at) later
 
 -- what is found is the nearest run; where nothing is, none is within 2 frames
-abbrev pub Answers : ℕ → List Span → Found → Type 0
-Answers at rs (At k f l) = Nearest at rs k (record { first = f; last = l })
-Answers at rs Nothing = Each (λ s. 2 < distance s at) rs
+abbrev pub Answers : ℕ → List Span → Option Found → Type 0
+Answers at rs (Some f) = Nearest at rs f.number f.run
+Answers at rs None = Each (λ s. 2 < distance s at) rs

@@ -1,12 +1,13 @@
 -- The voiced frames of a pitch track, and the runs that they make. Definitions only.
-use Rattle.std.specs.Prelude.{ℕ, ◌+◌, ◌-◌, ◌≤◌, ◌<◌, ◌≡◌, Bool, List, [], ◌∷◌, map, length, get_or, leb, Float}
+use Rattle.std.specs.Prelude.{ℕ, ◌+◌, ◌-◌, ◌≤◌, ◌<◌, Bool, List, [], ◌∷◌, map, length, get_or, leb, Float}
 use Rattle.std.specs.Float.{nan}
 use Rattle.std.specs.Float.Ieee.{ne}
 use Rattle.floats.specs.Plain.{zero_f}
-use Rattle.lists.specs.Results.{Listed, keep, filter}
+use Rattle.lists.specs.Results.{keep, filter}
 use Rattle.lists.specs.By.{Each}
 use Rattle.lists.specs.Grouped.{grouped}
 use Rattle.runs.specs.declared.voiced.Run.{Run}
+use Rattle.runs.specs.declared.voiced.Span.{Span}
 
 -- frame i has a pitch; 0 is none
 abbrev pub voiced : List Float → ℕ → Bool
@@ -37,10 +38,6 @@ abbrev pub long : Run → Bool
 long r = leb 5 r.size
 
 -- a run by its first and last frame alone
-pub record Span : Type 0 where
-  pub first : ℕ
-  pub last : ℕ
-
 abbrev pub span_of : ℕ → ℕ → Span
 span_of first last = record { first = first; last = last }
 
@@ -61,37 +58,6 @@ abbrev pub Spaced : ℕ → ℕ → List Span → Type 0
 Spaced lo n [] = Unit
 Spaced lo n (r ∷ rs) = (lo ≤ r.first) × (r.first ≤ r.last) × (r.last < n) × Spaced (r.last + 4) n rs
 
--- ---- runs as two lists, of their first and of their last frames
--- the first frames of runs
-abbrev pub firsts : List Span → List ℕ
-firsts = map (λ (r : Span). r.first)
-
--- the last frames of runs
-abbrev pub lasts : List Span → List ℕ
-lasts = map (λ (r : Span). r.last)
-
--- the runs whose first and last frames two lists hold
-unfoldable pub spans : List ℕ → List ℕ → List Span
-spans [] ls = []
-spans (f ∷ fs) [] = []
-spans (f ∷ fs) (l ∷ ls) = record { first = f; last = l } ∷ spans fs ls
-
--- two lists lent as runs: as many first frames as last ones, no more than a track has
-abbrev pub SpansLent : List ℕ → List ℕ → Type 0
-SpansLent first last = (length first ≡ length last) × (length first ≤ 2048)
-
--- two lists lent as runs of a track of n frames
-abbrev pub SpansIn : ℕ → List ℕ → List ℕ → Type 0
-SpansIn n first last = (length first ≡ length last) × InTrack n (spans first last)
-
 -- a track of at most 2,048 frames, and two lists with an entry at least for each of them
 abbrev pub RoomOfTwo : {A B C : Type 0} → List A → List B → List C → Type 0
 RoomOfTwo track xs ys = (length track ≤ 2048) × (length track ≤ length xs) × (length track ≤ length ys)
-
--- what a call leaves that writes runs to two lists, and returns their count r
-abbrev pub SpansListed : List Span → List ℕ → List ℕ → List ℕ → List ℕ → ℕ → Type 0
-SpansListed rs old_first first old_last last r = Listed (firsts rs) old_first first r × Listed (lasts rs) old_last last r
-
--- the same of voiced runs, with how many voiced frames they have
-abbrev pub RunsListed : List Run → List ℕ → List ℕ → List ℕ → List ℕ → List ℕ → List ℕ → ℕ → Type 0
-RunsListed rs old_first first old_last last old_size size r = Listed (firsts (map span rs)) old_first first r × Listed (lasts (map span rs)) old_last last r × Listed (map (λ (s : Run). s.size) rs) old_size size r

@@ -4,7 +4,8 @@ use Rattle.std.specs.Float.{nan}
 use Rattle.powers.specs.Pitch.{pitch_of, breaks_between}
 use Rattle.lists.specs.Results.{filter}
 use Rattle.lists.specs.Grouped.{grouped}
-use Rattle.runs.specs.Runs.{Span, long_runs}
+use Rattle.runs.specs.declared.voiced.Span.{Span}
+use Rattle.runs.specs.Runs.{long_runs}
 
 -- the pitch moves 3 semitones or more from frame a to frame b; never where one of the two has no pitch of 20 to 4000 Hz
 unfoldable pub breaks_from : List Float → ℕ → ℕ → Bool

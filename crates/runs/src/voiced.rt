@@ -1,46 +1,79 @@
 // The voiced frames of a pitch track, in which 0 is no pitch, and the runs that they make.
-ghost use Rattle.std.specs.Prelude.{◌≡◌, true, cond, ◌∷◌, ◌+◌, ◌≤◌, ◌<◌, min, length};
+ghost use Rattle.std.specs.Prelude.{◌≡◌, true, false, cond, ◌∷◌, ◌+◌, ◌≤◌, ◌<◌, length};
 ghost use Rattle.std.specs.Float.Ieee.{ne};
-ghost use Rattle.lists.specs.Results.{Pushed, more_if};
 ghost use Rattle.floats.specs.Plain.{zero_f};
-ghost use Rattle.runs.specs.Runs.{voiced, sole, joined, voiced_runs, long, long_runs, RoomOfTwo, SpansListed, RunsListed};
+ghost use Rattle.runs.specs.Runs.{voiced, sole, joined, span, voiced_runs, long_runs};
 ghost use Rattle.runs.specs.Ahead.{frames_from, runs_from, NextVoiced};
 
-use lists::sizes::smaller;
+use arrayvec::ArrayVec;
 
 // Two voiced frames that are at most this far apart share a run.
 const MAX_STEP: usize = 3;
 // A run with at least this many voiced frames is long.
 pub const MIN_RUN_FRAMES: u32 = 5;
+// The most runs that a track of 2,048 frames has: each begins 4 frames or more after the one before it.
+pub const MOST_RUNS: usize = 512;
 // How many frames are looked at together.
 const BLOCK: usize = 16;
 
+// A run by its first and last frame alone.
+#[derive(Clone, Copy, Default)]
+pub struct Span {
+    pub first: u32,
+    pub last: u32,
+}
+
 // A voiced run: its first and last frame, and how many voiced frames it has.
-#[derive(Clone, Copy)]
+#[derive(Clone, Copy, Default)]
 pub struct Run {
     pub first: u32,
     pub last: u32,
     pub size: u32,
 }
 
-// 1 where there is a pitch, else 0.
-pub fn one_voiced(hz: f32) -> u32
-    ensures { result ≡ more_if (ne hz zero_f) 0 }
-{
-    if hz != 0.0 { 1 } else { 0 }
+impl Run {
+    // The run by its two ends.
+    fn span(self) -> Span
+        ensures { result ≡ span self }
+    {
+        Span {
+            first: self.first,
+            last: self.last,
+        }
+    }
+
+    // The run with frame f, if that has a pitch; else the run as it is.
+    fn extended(self, hz: f32, f: u32) -> Run
+        requires { self.size < 2048 }
+        ensures { result ≡ cond (ne hz zero_f) (joined self (sole f)) self }
+    {
+        if is_voiced(hz) {
+            Run {
+                first: self.first,
+                last: f,
+                size: self.size + 1,
+            }
+        } else {
+            self
+        }
+    }
 }
 
-// 0 where no frame of the block from j on is voiced. All of them are looked at together, which is quick in a long silence.
-fn voices(pitch: &[f32], j: usize) -> u32
-    requires { j + 16 ≤ length pitch.now }
-    ensures { result ≡ 0 → frames_from pitch.now j ≡ frames_from pitch.now (j + 16) }
+// Whether there is a pitch.
+pub fn is_voiced(hz: f32) -> bool
+    ensures { result ≡ ne hz zero_f }
 {
-    let end = j + BLOCK;
-    let mut any = 0u32;
-    let mut k = j;
-    while k < end {
-        any = any | one_voiced(pitch[k]);
-        k += 1;
+    hz != 0.0
+}
+
+// Whether a frame of the block from j on is voiced. All of them are looked at together, which is quick in a long silence.
+fn has_voiced(pitch: &[f32], j: usize) -> bool
+    requires { j + 16 ≤ length pitch.now }
+    ensures { result ≡ false → frames_from pitch.now j ≡ frames_from pitch.now (j + 16) }
+{
+    let mut any = false;
+    for k in j..j + BLOCK {
+        any |= is_voiced(pitch[k]);
     }
     any
 }
@@ -52,8 +85,9 @@ fn skip_blocks(pitch: &[f32], i: usize) -> usize
         × (frames_from pitch.now i ≡ frames_from pitch.now result) }
 {
     let mut at = i;
+    // A `while`: it steps by blocks.
     while BLOCK <= pitch.len() - at {
-        if voices(pitch, at) != 0 {
+        if has_voiced(pitch, at) {
             return at;
         }
         at += BLOCK;
@@ -66,37 +100,12 @@ fn next_voiced(pitch: &[f32], i: usize) -> usize
     requires { i ≤ length pitch.now }
     ensures { NextVoiced pitch.now i result }
 {
-    let mut at = skip_blocks(pitch, i);
-    while at < pitch.len() {
-        if pitch[at] != 0.0 {
+    for at in skip_blocks(pitch, i)..pitch.len() {
+        if is_voiced(pitch[at]) {
             return at;
         }
-        at += 1;
     }
-    at
-}
-
-// One past the last frame that, if it is voiced, still belongs to the run, in a track of n frames.
-fn reach(run: Run, n: usize) -> usize
-    ensures { result ≡ min (run.last + 4) n }
-{
-    smaller(run.last as usize + MAX_STEP + 1, n)
-}
-
-// The run with frame f, if that has a pitch; else the run as it is.
-fn extended(run: Run, hz: f32, f: u32) -> Run
-    requires { run.size < 2048 }
-    ensures { result ≡ cond (ne hz zero_f) (joined run (sole f)) run }
-{
-    if hz != 0.0 {
-        Run {
-            first: run.first,
-            last: f,
-            size: run.size + 1,
-        }
-    } else {
-        run
-    }
+    pitch.len()
 }
 
 // The voiced run that begins with the voiced frame f.
@@ -110,64 +119,45 @@ fn run_from(pitch: &[f32], f: usize) -> Run
         last: f as u32,
         size: 1,
     };
-    let mut end = reach(run, pitch.len());
-    let mut i = f + 1;
-    while i < end {
-        run = extended(run, pitch[i], i as u32);
-        end = reach(run, pitch.len());
-        i += 1;
+    for i in f + 1..pitch.len() {
+        if run.last as usize + MAX_STEP < i {
+            return run;
+        }
+        run = run.extended(pitch[i], i as u32);
     }
     run
 }
 
-// Writes the voiced runs, in order: their first frames, their last frames and how many voiced frames they have. Returns how
-// many runs there are.
-pub fn voiced_runs(pitch: &[f32], first: &mut [u32], last: &mut [u32], size: &mut [u32]) -> usize
-    requires room_of_two { RoomOfTwo pitch.now first.old last.old }
-    requires pitch_in_bounds { length pitch.now ≤ length size.old }
-    ensures { RunsListed (voiced_runs pitch.now) first.old first.new last.old
-        last.new size.old size.new result }
+// The voiced runs, in order.
+pub fn voiced_runs(pitch: &[f32]) -> ArrayVec<Run, MOST_RUNS>
+    requires { length pitch.now ≤ 2048 }
+    ensures { result.items ≡ voiced_runs pitch.now }
 {
-    let mut n: usize = 0;
+    let mut runs = ArrayVec::new();
     let mut i = next_voiced(pitch, 0);
+    // A `while`: it goes from the end of each run to the next.
     while i < pitch.len() {
         let run = run_from(pitch, i);
-        first[n] = run.first;
-        last[n] = run.last;
-        size[n] = run.size;
-        n += 1;
+        runs.push(run);
         i = next_voiced(pitch, run.last as usize + 1);
     }
-    n
+    runs
 }
 
-// Writes a run at the count n, if it is long, and returns the new count.
-fn push_long(run: Run, first: &mut [u32], last: &mut [u32], n: usize) -> usize
-    requires { long run ≡ true → (n < length first.old) × (n < length last.old) }
-    ensures { (Pushed (long run) run.first n first.old first.new result)
-        × (Pushed (long run) run.last n last.old last.new result) }
+// The long runs, in order.
+pub fn long_runs(pitch: &[f32]) -> ArrayVec<Span, MOST_RUNS>
+    requires { length pitch.now ≤ 2048 }
+    ensures { result.items ≡ long_runs pitch.now }
 {
-    if MIN_RUN_FRAMES <= run.size {
-        first[n] = run.first;
-        last[n] = run.last;
-        n + 1
-    } else {
-        n
-    }
-}
-
-// Writes the first and last frames of the long runs, in order, and returns how many they are.
-pub fn long_runs(pitch: &[f32], first: &mut [u32], last: &mut [u32]) -> usize
-    requires { RoomOfTwo pitch.now first.old last.old }
-    ensures { SpansListed (long_runs pitch.now) first.old first.new last.old
-        last.new result }
-{
-    let mut n: usize = 0;
+    let mut runs = ArrayVec::new();
     let mut i = next_voiced(pitch, 0);
+    // A `while`: it goes from the end of each run to the next.
     while i < pitch.len() {
         let run = run_from(pitch, i);
-        n = push_long(run, first, last, n);
+        if MIN_RUN_FRAMES <= run.size {
+            runs.push(run.span());
+        }
         i = next_voiced(pitch, run.last as usize + 1);
     }
-    n
+    runs
 }

@@ -1,38 +1,38 @@
--- Walks along a list: what is worked out so far and what the rest gives make the answer for the whole, at every step. Assumes nothing.
-use mathlib.Core.Path.{◌≡◌}
+-- A fold over a list gives its smallest and its largest entry, and the smallest above a number. Assumes nothing.
+use mathlib.Core.Path.{◌≡◌, ◌∙◌}
 use mathlib.Core.Bool.{Bool, true, false, cond}
-use mathlib.Core.List.{List}
-use Prim.Native.Nat.{ℕ, ◌+◌, ◌≤◌, ◌<◌, min, max}
+use mathlib.Core.List.{List, [], ◌∷◌}
+use Prim.Native.Nat.{ℕ, ◌≤◌, min, max}
 use native.Mathlib.Omega.{arith}
 use lib.Dec.{ltb}
-use lib.ListN.{length, drop, get_or, drop_of_length-le}
+use Rattle.std.specs.List.{fold}
 use Rattle.lists.specs.Results.{cons_if, filter}
-use Rattle.lists.proofs.Fill.{drop_step, filter_step, filter_over}
 use Rattle.select.specs.Order.{least_of, greatest_of, least_above}
+use Rattle.select.proofs.Ranks.{least_small}
 
--- ---- one step, at the entry k
-module _ (l : List ℕ) (i : ℕ) (h : i < length l) where
-  pub least_step : (b : ℕ) → min b (least_of (drop i l)) ≡ min (min (get_or l i 0) b) (least_of (drop (i + 1) l))
-  least_step b = rw (drop_step l i 0 h) (omega arith)
+from : (b : ℕ) (l : List ℕ) → b ≤ 4294967295 → fold min b l ≡ min b (least_of l)
+from b [] h = omega arith
+from b (y ∷ l) h = from (min b y) l (omega arith) ∙ omega arith
 
-  pub greatest_step : (b : ℕ) → max b (greatest_of (drop i l)) ≡ max (max (get_or l i 0) b) (greatest_of (drop (i + 1) l))
-  greatest_step b = rw (drop_step l i 0 h) (omega arith)
+pub least_fold : (l : List ℕ) → fold min 4294967295 l ≡ least_of l
+least_fold l = from 4294967295 l (omega arith) ∙ omega (arith, least_small l)
 
-  pub above_step : (x b : ℕ) → b ≤ 4294967295
-      → min b (least_above x (drop i l)) ≡ min (min (cond (ltb x (get_or l i 0)) (get_or l i 0) 4294967295) b) (least_above x (drop (i + 1) l))
-  above_step x b q = rw (filter_step (ltb x) l i 0 h) (go (ltb x (get_or l i 0)) (get_or l i 0) (filter (ltb x) (drop (i + 1) l)))
-    where
-      go : (t : Bool) (k : ℕ) (m : List ℕ) → min b (least_of (cons_if t k m)) ≡ min (min (cond t k 4294967295) b) (least_of m)
-      go true k m = omega arith
-      go false k m = omega arith
+up_from : (b : ℕ) (l : List ℕ) → fold max b l ≡ max b (greatest_of l)
+up_from b [] = omega arith
+up_from b (y ∷ l) = up_from (max b y) l ∙ omega arith
 
--- ---- the end
-module _ (l : List ℕ) (i : ℕ) (h : length l ≤ i) where
-  pub least_end : (b : ℕ) → b ≤ 4294967295 → min b (least_of (drop i l)) ≡ b
-  least_end b q = rw (drop_of_length-le l h) (omega arith)
+pub greatest_fold : (l : List ℕ) → fold max 0 l ≡ greatest_of l
+greatest_fold l = up_from 0 l ∙ omega arith
 
-  pub greatest_end : (b : ℕ) → max b (greatest_of (drop i l)) ≡ b
-  greatest_end b = rw (drop_of_length-le l h) (omega arith)
+above_from : (x b : ℕ) (l : List ℕ) → b ≤ 4294967295 → fold (λ b k. min b (cond (ltb x k) k 4294967295)) b l ≡ min b (least_above x l)
+unfolding filter
+above_from x b [] h = omega arith
+above_from x b (y ∷ l) h = go (ltb x y) (λ c g. above_from x c l g)
+  where
+    go : (t : Bool) → ((c : ℕ) → c ≤ 4294967295 → fold (λ b k. min b (cond (ltb x k) k 4294967295)) c l ≡ min c (least_above x l))
+        → fold (λ b k. min b (cond (ltb x k) k 4294967295)) (min b (cond t y 4294967295)) l ≡ min b (least_of (cons_if t y (filter (ltb x) l)))
+    go true later = later (min b y) (omega arith) ∙ omega arith
+    go false later = later (min b 4294967295) (omega arith) ∙ omega arith
 
-  pub above_end : (x b : ℕ) → b ≤ 4294967295 → min b (least_above x (drop i l)) ≡ b
-  above_end x b q = rw (filter_over (ltb x) l i h) (omega arith)
+pub above_fold : (x : ℕ) (l : List ℕ) → fold (λ b k. min b (cond (ltb x k) k 4294967295)) 4294967295 l ≡ least_above x l
+above_fold x l = above_from x 4294967295 l (omega arith) ∙ omega (arith, least_small (filter (ltb x) l))

@@ -1,19 +1,9 @@
 // The entry at a place of a list as it would stand sorted, found by counting: nothing is sorted, moved or written.
 #![tactic(auto)]
 
-ghost use Rattle.std.specs.Prelude.{◌≡◌, cond, ◌+◌, ◌<◌, leb, ltb, length, get_or};
-ghost use Rattle.lists.specs.Results.{more_if};
+ghost use Rattle.std.specs.Prelude.{◌≡◌, cond, ◌+◌, ◌<◌, ltb, length, get_or};
 ghost use Rattle.lists.specs.Sorted.{sorted};
 ghost use Rattle.select.specs.Order.{at_most, least_of, greatest_of, least_above};
-
-use lists::sizes::{larger_u32, smaller_u32};
-
-// 1 where k is at most x, else 0.
-fn one(k: u32, x: u32) -> u32
-    ensures { result ≡ more_if (leb k x) 0 }
-{
-    if k <= x { 1 } else { 0 }
-}
 
 // How many keys are at most x.
 pub fn count(keys: &[u32], x: u32) -> u32
@@ -21,10 +11,8 @@ pub fn count(keys: &[u32], x: u32) -> u32
     ensures { result ≡ at_most x keys.now }
 {
     let mut n = 0u32;
-    let mut i = 0;
-    while i < keys.len() {
-        n = n + one(keys[i], x);
-        i += 1;
+    for k in keys {
+        n += (*k <= x) as u32;
     }
     n
 }
@@ -33,44 +21,31 @@ pub fn count(keys: &[u32], x: u32) -> u32
 fn least(keys: &[u32]) -> u32
     ensures { result ≡ least_of keys.now }
 {
-    let mut b = 0xffff_ffffu32;
-    let mut i = 0;
-    while i < keys.len() {
-        b = smaller_u32(keys[i], b);
-        i += 1;
-    }
-    b
+    keys.iter().fold(u32::MAX, |b, k| b.min(*k))
 }
 
 // The largest key; 0 where there is no key.
 fn greatest(keys: &[u32]) -> u32
     ensures { result ≡ greatest_of keys.now }
 {
-    let mut b = 0u32;
-    let mut i = 0;
-    while i < keys.len() {
-        b = larger_u32(keys[i], b);
-        i += 1;
-    }
-    b
+    keys.iter().fold(0, |b, k| b.max(*k))
 }
 
 // k where it is above x, else the largest u32.
 fn over(k: u32, x: u32) -> u32
     ensures { result ≡ cond (ltb x k) k 4294967295 }
 {
-    if x < k { k } else { 0xffff_ffff }
+    if x < k { k } else { u32::MAX }
 }
 
 // The smallest of the keys above x; the largest u32 where no key is above x.
 fn least_over(keys: &[u32], x: u32) -> u32
     ensures { result ≡ least_above x keys.now }
 {
-    let mut b = 0xffff_ffffu32;
-    let mut i = 0;
-    while i < keys.len() {
-        b = smaller_u32(over(keys[i], x), b);
-        i += 1;
+    // A loop and no fold, which took four times as long with the captured x.
+    let mut b = u32::MAX;
+    for k in keys {
+        b = b.min(over(*k, x));
     }
     b
 }
@@ -84,6 +59,7 @@ pub fn kth(keys: &[u32], k: u32) -> u32
 {
     let mut lo = least(keys);
     let mut hi = greatest(keys);
+    // A `while`, since it halves a range.
     while lo < hi {
         let mid = lo + (hi - lo) / 2;
         if k < count(keys, mid) {

@@ -1,8 +1,8 @@
--- The means of a track as the loops work them out: a sum so far with what is left of a part, the five frames at once, and the list of the means. Assumes nothing.
+-- The means of a track as the code works them out: of five frames at once, and the list of the means. Assumes nothing.
 use Prim.Native.Nat.{ℕ, ◌+◌, ◌-◌, ◌≤◌, ◌<◌, min}
 use native.Mathlib.Numerals.{add-one}
 use native.Mathlib.Omega.{arith}
-use mathlib.Core.Path.{◌≡◌, refl, sym, ap, ◌∙◌}
+use mathlib.Core.Path.{◌≡◌, refl, sym, ap, ap₂, ◌∙◌}
 use mathlib.Core.List.{List, map, foldl}
 use lib.IntN.{pos}
 use lib.ListN.{length, take, get_or, length-map}
@@ -14,28 +14,14 @@ use Rattle.lists.proofs.Fill.{listed_take}
 use Rattle.lists.proofs.Tabulated.{length_tabulate, tabulate_at}
 use Rattle.smooth.specs.Level.{clean, five_around, sum_of, mean_of, means, levels, level_at}
 
--- ---- the mean of a part
--- a sum so far, with the frames from j on and before hi added to it
-abbrev pub onward : List Float → ℕ → ℕ → Float → Float
-onward c hi j sum = foldl (add binary32) sum (slice j hi c)
-
-module _ (c : List Float) (hi : ℕ) (within : hi ≤ length c) where
-  pub sum_step : (j : ℕ) (sum : Float) → j < hi → onward c hi (j + 1) (add binary32 sum (get_or c j nan)) ≡ onward c hi j sum
-  sum_step j sum h = rw (add-one, slice-cons j hi c nan h within)
-
-  pub mean_end : (lo j : ℕ) (sum : Float) → j ≡ hi → onward c hi j sum ≡ sum_of (slice lo hi c) → plain_zero (div binary32 sum (of_int binary32 (pos (hi - lo)))) ≡ mean_of (slice lo hi c)
-  mean_end lo j sum e h =
-      let s : sum ≡ sum_of (slice lo hi c) = ap (foldl (add binary32) sum) (sym (slice_empty hi c)) ∙ ap (λ (x : ℕ). onward c hi x sum) (sym e) ∙ h in
-      ap (λ (x : Float). plain_zero (div binary32 x (of_int binary32 (pos (hi - lo))))) s
-      ∙ ap (λ (x : ℕ). plain_zero (div binary32 (sum_of (slice lo hi c)) (of_int binary32 (pos x)))) (sym (length-slice lo hi c within))
-
 -- ---- five frames at once
 module _ (c : List Float) (i : ℕ) (h : 2 ≤ i) (k : i + 2 < length c) where
-  within : i + 3 ≤ length c
-  within = omega arith
+  -- a sum so far, with the frames from j on and before i + 3 added to it
+  abbrev onward : ℕ → Float → Float
+  onward j sum = foldl (add binary32) sum (slice j (i + 3) c)
 
-  from_to : (j n : ℕ) (sum : Float) → n ≡ j + 1 → j < i + 3 → onward c (i + 3) n (add binary32 sum (get_or c j nan)) ≡ onward c (i + 3) j sum
-  from_to j n sum e l = ap (λ (x : ℕ). onward c (i + 3) x (add binary32 sum (get_or c j nan))) e ∙ sum_step c (i + 3) within j sum l
+  from_to : (j n : ℕ) (sum : Float) → n ≡ j + 1 → j < i + 3 → onward n (add binary32 sum (get_or c j nan)) ≡ onward j sum
+  from_to j n sum e l = rw (e, add-one, slice-cons j (i + 3) c nan l (omega arith))
 
   pub five : plain_zero (div binary32 (add binary32 (add binary32 (add binary32 (add binary32 (add binary32 zero_f (get_or c (i - 2) nan)) (get_or c (i - 1) nan)) (get_or c i nan)) (get_or c (i + 1) nan)) (get_or c (i + 2) nan)) (of_int binary32 (pos 5)))
       ≡ mean_of (five_around c i)
@@ -45,17 +31,16 @@ module _ (c : List Float) (i : ℕ) (h : 2 ≤ i) (k : i + 2 < length c) where
       let s3 = add binary32 s2 (get_or c i nan) in
       let s4 = add binary32 s3 (get_or c (i + 1) nan) in
       let s5 = add binary32 s4 (get_or c (i + 2) nan) in
-      let n : i + 3 - (i - 2) ≡ 5 = omega arith in
       let e : i + 3 ≡ min (i + 3) (length c) = omega arith in
-      let all : onward c (i + 3) (i + 3) s5 ≡ sum_of (slice (i - 2) (i + 3) c) =
-      from_to (i + 2) (i + 3) s4 (omega arith) (omega arith)
+      let n : length (slice (i - 2) (i + 3) c) ≡ 5 = length-slice (i - 2) (i + 3) c (omega arith) ∙ omega arith in
+      let all : s5 ≡ sum_of (slice (i - 2) (i + 3) c) =
+      sym (ap (foldl (add binary32) s5) (slice_empty (i + 3) c))
+      ∙ from_to (i + 2) (i + 3) s4 (omega arith) (omega arith)
       ∙ from_to (i + 1) (i + 2) s3 (omega arith) (omega arith)
       ∙ from_to i (i + 1) s2 refl (omega arith)
       ∙ from_to (i - 1) i s1 (omega arith) (omega arith)
       ∙ from_to (i - 2) (i - 1) zero_f (omega arith) (omega arith) in
-      ap (λ (x : ℕ). plain_zero (div binary32 s5 (of_int binary32 (pos x)))) (sym n)
-      ∙ mean_end c (i + 3) within (i - 2) (i + 3) s5 refl all
-      ∙ ap (λ (x : ℕ). mean_of (slice (i - 2) x c)) e
+      ap₂ (λ (x : Float) (m : ℕ). plain_zero (div binary32 x (of_int binary32 (pos m)))) all (sym n) ∙ ap (λ (x : ℕ). mean_of (slice (i - 2) x c)) e
 
 -- ---- the list of the means
 pub length_means : (c : List Float) → length (means c) ≡ length c

@@ -51,13 +51,6 @@ module _ (kind : Extremum) where
       go Min = refl
 
   module _ (s : List Float) where
-    -- one more frame
-    pub furthest_step : (m : Float) (i b : ℕ) → i ≤ b → b < length s → best_of (beyond kind) m (slice i (b + 1) s) ≡ best_of (beyond kind) (further kind m (at s i)) (slice (i + 1) (b + 1) s)
-    furthest_step m i b h k = rw (add-one i, slice-cons i (b + 1) s nan (omega arith) (omega arith))
-
-    pub furthest_over : (m : Float) (i b : ℕ) → i ≡ b + 1 → best_of (beyond kind) m (slice i (b + 1) s) ≡ m
-    furthest_over m i b e = rw (e, slice_empty (b + 1) s)
-
     -- k frames from i on
     beyond_some : (v m : Float) (i k : ℕ) → i + k ≤ length s → is_nan m ≡ false →
         beyond kind (best_of (beyond kind) m (slice i (i + k) s)) v ≡ (beyond kind m v || some_frame (λ j. beyond kind (at s j) v) i k)

@@ -4,20 +4,18 @@ use Prim.Native.Nat.{ℕ, ◌+◌, ◌-◌, ◌≤◌, ◌<◌, min}
 use native.Mathlib.Omega.{arith}
 use mathlib.Core.Path.{◌≡◌, refl, sym, ap, ap₂, ◌∙◌}
 use mathlib.Core.Bool.{Bool, true, false, ◌&&◌, ◌||◌, true≢false}
-use mathlib.Core.List.{List}
+use mathlib.Core.List.{List, [], ◌∷◌, ◌++◌, append_assoc, append-nil}
 use borrow.Author.Tests.{leb-true, leb-false, lt-leb, ltb-true, eq-eqb, ne_eqb}
-use lib.Bits.{bit_or}
 use lib.Dec.{leb, ltb}
-use lib.ListN.{length}
+use lib.ListN.{length, length-append}
 use lib.Ieee.{Float}
-use Rattle.lists.specs.Results.{Listed, Pushed, keep, cons_if, more_if}
+use Rattle.lists.specs.Results.{keep, cons_if}
 use Rattle.lists.specs.Sorted.{StrictlyRises}
 use Rattle.lists.proofs.Tests.{and_cases}
 use Rattle.lists.proofs.Entries.{each_map}
 use Rattle.lists.proofs.Members.{strict_between, each_keep, keep_rises}
-use Rattle.lists.proofs.Counting.{neither}
 use Rattle.lists.proofs.Walks.{NonePass, none_more, Seeking, seek_start, seek_on, seek_past, seek_found, back_found}
-use Rattle.lists.proofs.Fill.{Filling, fill_start, fill_pushed, fill_fits_if, fill_end, keep_step, keep_over, keep_fits, keep_pass}
+use Rattle.lists.proofs.Fill.{keep_step, keep_over, keep_fits, keep_pass}
 use Rattle.smooth.specs.declared.extrema.Extremum.{Extremum}
 use Rattle.smooth.specs.Extrema.{changes_after, flat_last, middle, peaks_at, is_extremum, inside, local_extrema}
 use Rattle.smooth.specs.Offered.{offered}
@@ -47,8 +45,9 @@ abbrev pub Ends : List Float → ℕ → Type 0
 Ends s j = (j + 1 < length s → changes_after s j ≡ true)
 
 -- a: whether there is a change from i to k
-pub change_more : (s : List Float) (i k a : ℕ) {r : ℕ} → r ≡ more_if (changes_after s k) 0 → (a ≡ 0 → NonePass (changes_after s) i k) → bit_or a r ≡ 0 → NonePass (changes_after s) i (k + 1)
-change_more s i k a e f z = let n = neither (changes_after s k) a e z in none_more (changes_after s) (f n.0) n.1
+pub change_more : (s : List Float) (i k : ℕ) (a : Bool) → (a ≡ false → NonePass (changes_after s) i k) → (a || changes_after s k) ≡ false → NonePass (changes_after s) i (k + 1)
+change_more s i k false f z = none_more (changes_after s) (f refl) z
+change_more s i k true f z = absurd (true≢false z)
 
 -- ---- the extrema of a stretch
 module _ (s : List Float) (lo hi : ℕ) (kind : Extremum) where
@@ -79,62 +78,72 @@ module _ (s : List Float) (lo hi : ℕ) (kind : Extremum) where
         keep_one listed (length s) i j (middle i j) (omega arith) (omega arith) c.within listed_not
         ∙ ap (λ (b : Bool). cons_if b (middle i j) (keep listed (j + 1) (length s - (j + 1)))) listed_middle
 
-  -- ---- the walk: the stretch i to j goes on, and what is left to list begins at i
-  module _ (out₀ : List ℕ) where
-    pub record Scan (out : List ℕ) (n i j : ℕ) : Type 0 where
-      pub stretch : j < length s → Stretch s i j
-      pub over : length s ≤ j → length s ≤ i
-      pub todo : Filling (local_extrema s lo hi kind) (keep listed i (length s - i)) out₀ out n
+  -- ---- the walk: the stretch i to j goes on, and what is left to find begins at i
+  pub record Scan (found : List ℕ) (i j : ℕ) : Type 0 where
+    pub stretch : j < length s → Stretch s i j
+    pub over : length s ≤ j → length s ≤ i
+    pub todo : found ++ keep listed i (length s - i) ≡ local_extrema s lo hi kind
 
-    pub scan_start : length s ≤ length out₀ → Scan out₀ 0 0 0
-    unfolding local_extrema
-    scan_start l =
-        let e : length s - 0 ≡ length s = omega arith in
-        record {
-          stretch = λ h. record { within = h; start = λ l. absurd (omega arith); alike = seek_start (changes_after s) 0 (length s - 1) (omega arith) };
-          over = λ h. h;
-          todo = rw e (fill_start _ _ (omega (arith, keep_fits listed 0 (length s))));
-        }
+  pub scan_start : Scan [] 0 0
+  unfolding local_extrema
+  scan_start =
+      let e : length s - 0 ≡ length s = omega arith in
+      record {
+        stretch = λ h. record { within = h; start = λ l. absurd (omega arith); alike = seek_start (changes_after s) 0 (length s - 1) (omega arith) };
+        over = λ h. h;
+        todo = ap (keep listed 0) e;
+      }
 
-    module _ {out : List ℕ} {n i j : ℕ} (c : Scan out n i j) where
-      pub scan_end : length s ≤ j → Listed (local_extrema s lo hi kind) out₀ out n
-      scan_end h = fill_end (rw (keep_over listed i (length s) (c.over h)) at c.todo)
+  module _ {found : List ℕ} {i j : ℕ} (c : Scan found i j) where
+    pub scan_end : length s ≤ j → found ≡ local_extrema s lo hi kind
+    scan_end h = sym (append-nil found) ∙ ap (λ (l : List ℕ). found ++ l) (sym (keep_over listed i (length s) (c.over h))) ∙ c.todo
 
-      module _ (h : j < length s) {b : Bool} (e : b ≡ (leb (length s) (j + 1) || changes_after s j)) where
-        ends : b ≡ true → Ends s j
-        ends t l =
-            let x : leb (length s) (j + 1) ≡ false = lt-leb (length s) (j + 1) l in
-            rw x at (sym e ∙ t)
+    module _ (h : j < length s) {b : Bool} (e : b ≡ (leb (length s) (j + 1) || changes_after s j)) where
+      ends : b ≡ true → Ends s j
+      ends t l =
+          let x : leb (length s) (j + 1) ≡ false = lt-leb (length s) (j + 1) l in
+          rw x at (sym e ∙ t)
 
-        goes : b ≡ false → (j + 1 < length s) × (changes_after s j ≡ false)
-        goes t = go (leb (length s) (j + 1)) refl (sym e ∙ t)
-          where
-            go : (a : Bool) → leb (length s) (j + 1) ≡ a → (a || changes_after s j) ≡ false → (j + 1 < length s) × (changes_after s j ≡ false)
-            go true x y = absurd (true≢false y)
-            go false x y = (leb-false (length s) (j + 1) x, y)
+      goes : b ≡ false → (j + 1 < length s) × (changes_after s j ≡ false)
+      goes t = go (leb (length s) (j + 1)) refl (sym e ∙ t)
+        where
+          go : (a : Bool) → leb (length s) (j + 1) ≡ a → (a || changes_after s j) ≡ false → (j + 1 < length s) × (changes_after s j ≡ false)
+          go true x y = absurd (true≢false y)
+          go false x y = (leb-false (length s) (j + 1) x, y)
 
-        pub scan_room : b ≡ true → offered kind s lo hi i j ≡ true → n < length out
-        scan_room t w = fill_fits_if _ _ _ w (rw (stretch_cut (c.stretch h) (ends t)) at c.todo)
+      -- the stretch ends, and what comes of it is found
+      next : b ≡ true → {found' : List ℕ} → found' ++ keep listed (j + 1) (length s - (j + 1)) ≡ local_extrema s lo hi kind → Scan found' (j + 1) (j + 1)
+      next t w = record {
+        stretch = λ l. record { within = l; start = λ z. let d : j + 1 - 1 ≡ j = omega arith in rw d (ends t l); alike = seek_start (changes_after s) (j + 1) (length s - 1) (omega arith) };
+        over = λ l. l;
+        todo = w;
+      }
 
-        pub scan_cut : b ≡ true → {out' : List ℕ} {n' : ℕ} → Pushed (offered kind s lo hi i j) (middle i j) n out out' n' → Scan out' n' (j + 1) (j + 1)
-        scan_cut t p = record {
-          stretch = λ l. record { within = l; start = λ z. let d : j + 1 - 1 ≡ j = omega arith in rw d (ends t l); alike = seek_start (changes_after s) (j + 1) (length s - 1) (omega arith) };
-          over = λ l. l;
-          todo = fill_pushed _ _ (rw (stretch_cut (c.stretch h) (ends t)) at c.todo) p;
-        }
+      module _ (t : b ≡ true) {o : Bool} (f : o ≡ offered kind s lo hi i j) where
+        left : found ++ cons_if o (middle i j) (keep listed (j + 1) (length s - (j + 1))) ≡ local_extrema s lo hi kind
+        left = rw (f, ← stretch_cut (c.stretch h) (ends t)) c.todo
 
-        pub scan_on : b ≡ false → (r : ℕ) → (r ≡ flat_last s (j + 1) (length s - 1 - (j + 1))) × ((j + 1 ≤ r) × (r ≤ length s - 1)) → Scan out n i r
-        scan_on t r f =
-            let g = goes t in
-            let o = c.stretch h in
-            record {
-              stretch = λ l. record { within = l; start = o.start; alike = seek_past _ _ _ (seek_on _ _ _ o.alike (omega (arith, g.0)) g.1) _ f.1.1 f.0 };
-              over = λ l. absurd (omega (arith, l, f.1.1, h));
-              todo = c.todo;
-            }
+        pub scan_room : o ≡ true → length found < length s
+        unfolding local_extrema
+        scan_room w =
+            let l : found ++ (middle i j ∷ keep listed (j + 1) (length s - (j + 1))) ≡ local_extrema s lo hi kind = rw w at left in
+            omega (arith, simp length-append at (ap length l), keep_fits listed 0 (length s))
 
-        pub next_within : b ≡ false → j + 1 < length s
-        next_within t = (goes t).0
+        pub scan_found : o ≡ true → {m : ℕ} → m ≡ middle i j → {found' : List ℕ} → found' ≡ found ++ (m ∷ []) → Scan found' (j + 1) (j + 1)
+        scan_found w q n = next t (rw (n, q, append_assoc) (rw w at left))
+
+        pub scan_none : o ≡ false → Scan found (j + 1) (j + 1)
+        scan_none w = next t (rw w at left)
+
+      pub scan_on : b ≡ false → (r : ℕ) → (r ≡ flat_last s (j + 1) (length s - 1 - (j + 1))) × ((j + 1 ≤ r) × (r ≤ length s - 1)) → Scan found i r
+      scan_on t r f =
+          let g = goes t in
+          let o = c.stretch h in
+          record {
+            stretch = λ l. record { within = l; start = o.start; alike = seek_past _ _ _ (seek_on _ _ _ o.alike (omega (arith, g.0)) g.1) _ f.1.1 f.0 };
+            over = λ l. absurd (omega (arith, l, f.1.1, h));
+            todo = c.todo;
+          }
 
 -- ---- what is listed
 module _ (s : List Float) (lo hi : ℕ) (kind : Extremum) where

@@ -18,26 +18,9 @@ fn clean_all(db: &[f32], c: &mut [f32])
     requires { length db.now ≤ length c.old }
     ensures { c.new ≡ overlay (map clean db.now) c.old }
 {
-    let mut i: usize = 0;
-    while i < db.len() {
-        c[i] = clean(db[i]);
-        i += 1;
+    for (i, d) in db.iter().enumerate() {
+        c[i] = clean(*d);
     }
-}
-
-// The first frame of the five around frame i; at the start of the track frame 0.
-fn first(i: usize) -> usize
-    ensures { result ≡ i - 2 }
-{
-    if i < 2 { 0 } else { i - 2 }
-}
-
-// One past the last frame of the five around frame i; at the end of the track n.
-fn past(i: usize, n: usize) -> usize
-    requires { i < n }
-    ensures { result ≡ min (i + 3) n }
-{
-    if n - i < 3 { n } else { i + 3 }
 }
 
 // The mean of the entries from a on and before b, a zero as +0.0; of none a NaN.
@@ -45,13 +28,12 @@ pub fn mean(xs: &[f32], a: usize, b: usize) -> f32
     requires { (a ≤ b) × (b ≤ length xs.now) × (b ≤ a + 5) }
     ensures { result ≡ mean_of (slice a b xs.now) }
 {
+    let part = &xs[a..b];
     let mut sum = 0.0f32;
-    let mut j = a;
-    while j < b {
-        sum = sum + xs[j];
-        j += 1;
+    for x in part {
+        sum += *x;
     }
-    plain_zero(sum / ((b - a) as f32))
+    plain_zero(sum / (part.len() as f32))
 }
 
 // The mean of the frames around frame i, of as many of the five as there are.
@@ -59,10 +41,11 @@ fn mean_around(c: &[f32], i: usize) -> f32
     requires { i < length c.now }
     ensures { result ≡ mean_of (five_around c.now i) }
 {
-    mean(c, first(i), past(i, c.len()))
+    mean(c, i.saturating_sub(2), (i + 3).min(c.len()))
 }
 
-// The mean of the five frames around frame i, which has two frames on either side.
+// The mean of the five frames around frame i, which has two frames on either side. It has no loop of its own, so that the
+// loop over such frames runs over several of them at once.
 fn mean_of_five(c: &[f32], i: usize) -> f32
     requires { (2 ≤ i) × (i + 2 < length c.now) }
     ensures { result ≡ mean_of (five_around c.now i) }
@@ -75,10 +58,8 @@ fn some_means(c: &[f32], a: usize, b: usize, out: &mut [f32])
     requires { (a ≤ b) × (b ≤ length c.now) × (length c.now ≤ length out.old) }
     ensures { out.new ≡ replaced a b (means c.now) out.old }
 {
-    let mut i = a;
-    while i < b {
+    for i in a..b {
         out[i] = mean_around(c, i);
-        i += 1;
     }
 }
 
@@ -87,11 +68,8 @@ fn inner_means(c: &[f32], out: &mut [f32])
     requires { (5 ≤ length c.now) × (length c.now ≤ length out.old) }
     ensures { out.new ≡ replaced 2 (length c.now - 2) (means c.now) out.old }
 {
-    let n = c.len() - 2;
-    let mut i: usize = 2;
-    while i < n {
+    for i in 2..c.len() - 2 {
         out[i] = mean_of_five(c, i);
-        i += 1;
     }
 }
 
@@ -110,21 +88,12 @@ fn all_means(c: &[f32], out: &mut [f32])
     some_means(c, n - 2, n, out);
 }
 
-// Writes the level of each frame to the front of out. c is room to work in; what it holds after is free.
-fn smoothed_through(db: &[f32], c: &mut [f32], out: &mut [f32])
-    requires { (length db.now ≤ length out.old) × (length db.now ≤ length c.old) }
-    ensures { out.new ≡ overlay (levels db.now) out.old }
-{
-    let n = db.len();
-    clean_all(db, c);
-    all_means(&c[..n], out);
-}
-
 // Writes the level of each frame to the front of out, whose entries past them stay.
 pub fn smoothed_db(db: &[f32], out: &mut [f32])
     requires { (length db.now ≤ length out.old) × (length db.now ≤ 2048) }
     ensures { out.new ≡ overlay (levels db.now) out.old }
 {
     let mut c = [0.0f32; 2048];
-    smoothed_through(db, &mut c, out);
+    clean_all(db, &mut c);
+    all_means(&c[..db.len()], out);
 }

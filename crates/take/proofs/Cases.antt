@@ -1,7 +1,7 @@
 -- A listing with the kinds of line that K1 lacks, a refusal, and files beside each limit of the head, by computing the definitions. Assumes nothing.
 use mathlib.Core.Path.{◌≡◌, refl}
-use mathlib.Core.Bool.{false}
 use mathlib.Core.List.{[], ◌∷◌, flat_map}
+use Rattle.std.specs.Prelude.{None}
 use lib.Ieee.{binary32, of_bits, to_bits}
 use Rattle.lists.specs.Results.{keep}
 use Rattle.take.specs.Fields.{half_at, word_at}
@@ -11,7 +11,7 @@ use Rattle.take.specs.Listing.{Marks, mark_lines, pitch_lines, region_line, list
 
 -- a pitch of 400 Hz that is left as 200, at frame 1 of two, no region, and an extra with its edge
 abbrev pub other : Marks
-other = record { given = of_bits binary32 0 ∷ of_bits binary32 1137180672 ∷ []; left = of_bits binary32 0 ∷ of_bits binary32 1128792064 ∷ []; found = false; start = 0; end = 0; frames = []; strengths = []; extra_frames = 10 ∷ []; extra_strengths = of_bits binary32 1109393408 ∷ []; edges = 2047 ∷ []; boundaries = [] }
+other = record { given = of_bits binary32 0 ∷ of_bits binary32 1137180672 ∷ []; left = of_bits binary32 0 ∷ of_bits binary32 1128792064 ∷ []; region = None; frames = []; strengths = []; extra_frames = 10 ∷ []; extra_strengths = of_bits binary32 1109393408 ∷ []; edges = 2047 ∷ []; boundaries = [] }
 
 pub other_listing : listing other ≡ 112 ∷ 105 ∷ 116 ∷ 99 ∷ 104 ∷ 32 ∷ 49 ∷ 32 ∷ 52 ∷ 51 ∷ 52 ∷ 56 ∷ 48 ∷ 48 ∷ 48 ∷ 48 ∷ 10 ∷ 114 ∷ 101 ∷ 103 ∷ 105 ∷ 111 ∷ 110 ∷ 32 ∷ 110 ∷ 111 ∷ 110 ∷ 101 ∷ 10 ∷ 101 ∷ 120 ∷ 116 ∷ 114 ∷ 97 ∷ 32 ∷ 49 ∷ 48 ∷ 32 ∷ 52 ∷ 50 ∷ 50 ∷ 48 ∷ 48 ∷ 48 ∷ 48 ∷ 48 ∷ 10 ∷ 101 ∷ 120 ∷ 116 ∷ 114 ∷ 97 ∷ 45 ∷ 101 ∷ 100 ∷ 103 ∷ 101 ∷ 32 ∷ 50 ∷ 48 ∷ 52 ∷ 55 ∷ 10 ∷ []
 unfolding listing pitch_lines region_line mark_lines flat_map keep glyph hex_digits decimal_in of_bits to_bits

@@ -1,4 +1,4 @@
-pub mod Puts
+pub mod Writing
 pub mod Numbers
 pub mod Records
 pub mod Agreement

@@ -3,12 +3,13 @@ use Prim.Native.Nat.{ℕ, ◌+◌, ◌-◌, ◌≤◌, ◌<◌}
 use native.Mathlib.Omega.{arith}
 use mathlib.Core.Path.{◌≡◌, refl, ap, ap₂, ◌∙◌}
 use mathlib.Core.Bool.{Bool, true, false, cond}
-use mathlib.Core.List.{List, [], ◌++◌, flat_map}
+use mathlib.Core.List.{List, [], ◌∷◌, ◌++◌, flat_map}
+use mathlib.Core.Logic.{◌⊎◌, ⊎_elim}
 use lib.ListN.{length, get_or, drop, drop_of_length-le}
 use lib.Ieee.{Float, nan}
 use Rattle.lists.specs.Results.{keep, cons_if}
 use Rattle.lists.proofs.Fill.{drop_step, keep_step, keep_over}
-use Rattle.take.specs.Listing.{Marks, pitch_word, nucleus_word, extra_word, edge_word, boundary_word, frame_lines, mark_line, mark_lines, repitched, pitch_lines, region_line, listing}
+use Rattle.take.specs.Listing.{pitch_word, mark_line, mark_lines, repitched, pitch_lines}
 
 -- a text for each entry
 module _ (f : ℕ → List ℕ) where
@@ -26,13 +27,15 @@ module _ (f : ℕ → List ℕ) where
   kept_step false i is = refl
 
 -- a line for each frame with its strength
-pub marks_step : (w is : List ℕ) (xs : List Float) (i : ℕ) → i < length is → i < length xs → mark_lines w (drop i is) (drop i xs) ≡ mark_line w (get_or is i 0) (get_or xs i nan) ++ mark_lines w (drop (i + 1) is) (drop (i + 1) xs)
+pub marks_step : (w : List ℕ) (i : ℕ) (x : Float) {is is' : List ℕ} {xs xs' : List Float} → is ≡ i ∷ is' → xs ≡ x ∷ xs' → mark_lines w is xs ≡ mark_line w i x ++ mark_lines w is' xs'
 unfolding mark_lines
-marks_step w is xs i h k = ap₂ (mark_lines w) (drop_step is i 0 h) (drop_step xs i nan k)
+marks_step w i x e h = ap₂ (mark_lines w) e h
 
-pub marks_over : (w is : List ℕ) (xs : List Float) (i : ℕ) → length is ≤ i → mark_lines w (drop i is) (drop i xs) ≡ []
+pub marks_over : (w is : List ℕ) (xs : List Float) → (is ≡ []) ⊎ (xs ≡ []) → mark_lines w is xs ≡ []
 unfolding mark_lines
-marks_over w is xs i h = rw (drop_of_length-le is h)
+marks_over w [] xs h = refl
+marks_over w (i ∷ is) [] h = refl
+marks_over w (i ∷ is) (x ∷ xs) h = ⊎_elim (λ e. absurd (omega (arith, ap length e))) (λ e. absurd (omega (arith, ap length e))) h
 
 -- the lines of the changed pitches from frame i on
 module _ (given left : List Float) where
@@ -51,21 +54,3 @@ module _ (given left : List Float) where
   pub pitches_over : (i : ℕ) → length left ≤ i → pitches_from i ≡ []
   unfolding flat_map
   pitches_over i h = ap (flat_map (λ (k : ℕ). mark_line pitch_word k (get_or left k nan))) (keep_over (λ (k : ℕ). repitched (get_or given k nan) (get_or left k nan)) i (length left) h)
-
--- what of a listing is still to come after its first parts
-module _ (m : Marks) where
-  abbrev pub from_edges : List ℕ
-  from_edges = frame_lines edge_word m.edges ++ frame_lines boundary_word m.boundaries
-
-  abbrev pub from_extras : List ℕ
-  from_extras = mark_lines extra_word m.extra_frames m.extra_strengths ++ from_edges
-
-  abbrev pub from_nuclei : List ℕ
-  from_nuclei = mark_lines nucleus_word m.frames m.strengths ++ from_extras
-
-  abbrev pub from_region : List ℕ
-  from_region = region_line m.found m.start m.end ++ from_nuclei
-
-  pub listing_room : (n : ℕ) → length (listing m) ≤ n → 0 + length (pitch_lines m.given m.left ++ from_region) ≤ n
-  unfolding listing
-  listing_room n h = omega arith

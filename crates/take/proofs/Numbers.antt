@@ -1,48 +1,85 @@
--- Digits of a number: how many they are, and the last of them. Assumes nothing.
-use Prim.Native.Nat.{ℕ, zero, suc, ◌-◌, ◌*◌, ◌/◌, ◌%◌, ◌^◌, ◌≤◌, ◌<◌}
+-- Digits of a number: how many they are, and that the library writes them. Assumes nothing.
+use Prim.Native.Nat.{ℕ, zero, suc, ◌*◌, ◌/◌, ◌%◌, ◌^◌, ◌≤◌, ◌<◌}
 use native.Mathlib.Omega.{arith}
 use native.Mathlib.Nat.{pow-suc}
-use mathlib.Core.Path.{◌≡◌, refl, sym, ap, ◌∙◌}
-use mathlib.Core.Bool.{cond}
-use mathlib.Core.List.{List, [], ◌∷◌, ◌++◌}
-use lib.Dec.{ltb}
-use borrow.Author.Tests.{lt-ltb, le-ltb}
-use lib.ListN.{length, length-append}
-use Rattle.take.specs.Text.{glyph, hex_digits, decimal_in, decimal}
+use mathlib.Core.Path.{◌≡◌, refl, ap, ◌∙◌}
+use mathlib.Core.Bool.{Bool, true, false, ◌&&◌}
+use mathlib.Core.List.{List, [], ◌∷◌, ◌++◌, append_assoc, append-nil}
+use lib.Dec.{ltb, eqb}
+use borrow.Author.Count.{below_more}
+use Rattle.lists.proofs.Tests.{and_cases}
+use borrow.Author.Tests.{lt-ltb, le-ltb, ltb-true, ltb-false, eq-eqb, ne_eqb, eqb-true}
+use lib.ListN.{length, get_or, length-append}
+use Rattle.std.specs.Fmt.{digits, digits_onto, digit_glyph}
+use Rattle.std.specs.Int.{w32, to_be_bytes}
+use Rattle.hex.specs.Hex.{encode_with, encode_lower, lower_digits}
+use Rattle.take.specs.Text.{glyph, hex_digits, hex, decimal_in, decimal}
 
 pub hex_length : (k n : ℕ) → length (hex_digits k n) ≡ k
 unfolding hex_digits
 hex_length zero n = refl
 hex_length (suc k) n = length-append (hex_digits k (n / 16)) (glyph (n % 16) ∷ []) ∙ omega (arith, hex_length k (n / 16))
 
-pub hex_none : (k n : ℕ) → k ≡ 0 → hex_digits k n ≡ []
-unfolding hex_digits
-hex_none k n e = rw e
-
-pub hex_step : (k n : ℕ) → (k ≡ 0 → ⊥) → hex_digits k n ≡ hex_digits (k - 1) (n / 16) ++ (glyph (n % 16) ∷ [])
-unfolding hex_digits
-hex_step zero n h = absurd (h refl)
-hex_step (suc k) n h = let e : suc k - 1 ≡ k = omega arith in rw e
-
 pub tenth : (n m : ℕ) → n < m * 10 → n / 10 < m
 tenth n m h = omega arith
 
--- a place more makes no other digits, where there are enough
-enough : (k n : ℕ) → n < 10 ^ suc k → decimal_in (suc (suc k)) n ≡ decimal_in (suc k) n
+-- the library's digits, before those that it has already
+one_digit : (f k n : ℕ) (acc : List ℕ) → n < 10 → digits_onto (suc f) 10 false n acc ≡ decimal_in (suc k) n ++ acc
+unfolding decimal_in glyph
+one_digit f k n acc h =
+    let z : n / 10 ≡ 0 = omega arith in
+    let m : n % 10 ≡ n = omega arith in
+    rw (eq-eqb (n / 10) 0 z, m, lt-ltb n 10 h)
+
+glyph_same : (d : ℕ) → digit_glyph false d ≡ glyph d
+unfolding glyph
+glyph_same d = refl
+
+more_digits : (f k n : ℕ) (acc : List ℕ) → 10 ≤ n → digits_onto f 10 false (n / 10) (glyph (n % 10) ∷ acc) ≡ decimal_in k (n / 10) ++ (glyph (n % 10) ∷ acc) → digits_onto (suc f) 10 false n acc ≡ decimal_in (suc k) n ++ acc
 unfolding decimal_in
-enough zero n h = rw (lt-ltb n 10 h)
-enough (suc k) n h = ap (λ (l : List ℕ). cond (ltb n 10) (glyph n ∷ []) (l ++ (glyph (n % 10) ∷ []))) (enough k (n / 10) (tenth n (10 ^ suc k) (rw (pow-suc 10 (suc k)) at h)))
+more_digits f k n acc h e =
+    let z : n / 10 ≡ 0 → ⊥ = λ x. absurd (omega (arith, x)) in
+    rw (ne_eqb (n / 10) 0 z, le-ltb n 10 h, glyph_same (n % 10), append_assoc) e
 
-digit : (k n : ℕ) → n < 10 → decimal_in (suc k) n ≡ glyph n ∷ []
-unfolding decimal_in
-digit k n h = rw (lt-ltb n 10 h)
+by_size : (f k n : ℕ) (acc : List ℕ) (b : Bool) → ltb n 10 ≡ b → digits_onto f 10 false (n / 10) (glyph (n % 10) ∷ acc) ≡ decimal_in k (n / 10) ++ (glyph (n % 10) ∷ acc) → digits_onto (suc f) 10 false n acc ≡ decimal_in (suc k) n ++ acc
+by_size f k n acc true t e = one_digit f k n acc (ltb-true n 10 t)
+by_size f k n acc false t e = more_digits f k n acc (ltb-false n 10 t) e
 
-step : (k n : ℕ) → 10 ≤ n → decimal_in (suc k) n ≡ decimal_in k (n / 10) ++ (glyph (n % 10) ∷ [])
-unfolding decimal_in
-step k n h = rw (le-ltb n 10 h)
+onto : (f k n : ℕ) (acc : List ℕ) → k ≤ f → n < 10 ^ suc k → digits_onto (suc f) 10 false n acc ≡ decimal_in (suc k) n ++ acc
+onto f zero n acc l h = one_digit f 0 n acc h
+onto zero (suc k) n acc l h = absurd (omega (arith, l))
+onto (suc f) (suc k) n acc l h = by_size (suc f) (suc k) n acc (ltb n 10) refl (onto f k (n / 10) (glyph (n % 10) ∷ acc) (omega (arith, l)) (tenth n (10 ^ suc k) (rw (pow-suc 10 (suc k)) at h)))
 
-pub decimal_digit : (n : ℕ) → n < 10 → decimal n ≡ glyph n ∷ []
-decimal_digit n h = digit 9 n h
+pub decimal_same : (n : ℕ) → n < 4294967296 → digits 10 false n ≡ decimal n
+unfolding digits
+decimal_same n h = onto 63 9 n [] (omega arith) (omega arith) ∙ append-nil (decimal n)
 
-pub decimal_step : (n : ℕ) → 10 ≤ n → n < 4294967296 → decimal n ≡ decimal (n / 10) ++ (glyph (n % 10) ∷ [])
-decimal_step n h l = step 9 n h ∙ ap (λ (d : List ℕ). d ++ (glyph (n % 10) ∷ [])) (sym (enough 8 (n / 10) (omega arith)))
+-- a test of the numbers below k
+below : (ℕ → Bool) → ℕ → Bool
+below t zero = true
+below t (suc k) = t k && below t k
+
+below_each : (t : ℕ → Bool) (k : ℕ) → below t k ≡ true → (d : ℕ) → d < k → t d ≡ true
+unfolding below
+below_each t zero e d h = absurd (omega (arith, h))
+below_each t (suc k) e d h =
+    let p = and_cases (t k) (below t k) e in
+    below_more (λ (i : ℕ). t i ≡ true) k (below_each t k p.1) p.0 d (omega (arith, h))
+
+-- the library's digits of a byte
+half_same : (d : ℕ) → d < 16 → get_or lower_digits d 0 ≡ glyph d
+unfolding glyph below
+half_same d h = eqb-true _ _ (below_each (λ (k : ℕ). eqb (get_or lower_digits k 0) (glyph k)) 16 refl d h)
+
+pub hex_same : (n : ℕ) → encode_lower (to_be_bytes w32 n) ≡ hex n
+unfolding encode_with hex_digits
+hex_same n =
+    let d0 : get_or lower_digits (n % 256 % 16) 0 ≡ glyph (n % 16) = half_same _ (omega arith) ∙ ap glyph (omega arith) in
+    let d1 : get_or lower_digits (n % 256 / 16) 0 ≡ glyph (n / 16 % 16) = half_same _ (omega arith) ∙ ap glyph (omega arith) in
+    let d2 : get_or lower_digits (n / 256 % 256 % 16) 0 ≡ glyph (n / 16 / 16 % 16) = half_same _ (omega arith) ∙ ap glyph (omega arith) in
+    let d3 : get_or lower_digits (n / 256 % 256 / 16) 0 ≡ glyph (n / 16 / 16 / 16 % 16) = half_same _ (omega arith) ∙ ap glyph (omega arith) in
+    let d4 : get_or lower_digits (n / 65536 % 256 % 16) 0 ≡ glyph (n / 16 / 16 / 16 / 16 % 16) = half_same _ (omega arith) ∙ ap glyph (omega arith) in
+    let d5 : get_or lower_digits (n / 65536 % 256 / 16) 0 ≡ glyph (n / 16 / 16 / 16 / 16 / 16 % 16) = half_same _ (omega arith) ∙ ap glyph (omega arith) in
+    let d6 : get_or lower_digits (n / 16777216 % 256 % 16) 0 ≡ glyph (n / 16 / 16 / 16 / 16 / 16 / 16 % 16) = half_same _ (omega arith) ∙ ap glyph (omega arith) in
+    let d7 : get_or lower_digits (n / 16777216 % 256 / 16) 0 ≡ glyph (n / 16 / 16 / 16 / 16 / 16 / 16 / 16 % 16) = half_same _ (omega arith) ∙ ap glyph (omega arith) in
+    cc

@@ -5,6 +5,8 @@ use native.Mathlib.Nat.{pow-suc, mul-suc, le_trans}
 use mathlib.Core.Bool.{Bool, true, false, cond}
 use mathlib.Core.List.{List, [], ◌∷◌, ◌++◌, flat_map}
 use lib.Dec.{ltb}
+use Rattle.std.specs.Prelude.{Option, None, Some}
+use Rattle.region.specs.declared.Region.{Region}
 use lib.ListN.{length, get_or, length-append}
 use lib.Ieee.{Float, nan}
 use borrow.Author.Tests.{lt-ltb}
@@ -38,10 +40,10 @@ frame_size w i = simp length-append (omega (arith, places 10 i))
 mark_size : (w : List ℕ) (i d : ℕ) (x : Float) → length (decimal i) ≤ d → length (mark_line w i x) ≤ length w + (d + 11)
 mark_size w i d x h = simp (length-append, hex_length) (omega arith)
 
-region_size : (found : Bool) (start end : ℕ) → length (region_line found start end) ≤ 29
+region_size : (region : Option Region) → length (region_line region) ≤ 29
 unfolding region_line
-region_size true start end = simp length-append (omega (arith, places 10 start, places 10 end))
-region_size false start end = omega arith
+region_size None = omega arith
+region_size (Some r) = simp length-append (omega (arith, places 10 r.start, places 10 r.end))
 
 -- ---- lists of lines of at most b bytes
 module _ (b : ℕ) where
@@ -89,7 +91,7 @@ listing_size m n h s =
     (omega (
       arith,
       pitches_size m.given m.left (le_trans s.pitches h),
-      region_size m.found m.start m.end,
+      region_size m.region,
       marks_size 28 nucleus_word (λ i x. mark_size nucleus_word i 10 x (places 10 i)) m.frames m.strengths,
       marks_size 26 extra_word (λ i x. mark_size extra_word i 10 x (places 10 i)) m.extra_frames m.extra_strengths,
       texts_size 22 (frame_line edge_word) (frame_size edge_word) m.edges,

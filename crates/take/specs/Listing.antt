@@ -1,18 +1,17 @@
 -- The listing of a take's marks, byte by byte. Definitions only.
-use Rattle.std.specs.Prelude.{ℕ, ◌+◌, ◌*◌, Bool, not, cond, eqb, length, get_or, Float}
+use Rattle.std.specs.Prelude.{ℕ, ◌+◌, ◌*◌, Bool, not, eqb, length, get_or, Float, Option, None, Some}
 use mathlib.Core.List.{List, [], ◌∷◌, ◌++◌, flat_map}
 use Rattle.std.specs.Float.{nan, binary32}
 use Rattle.std.specs.Float.Ieee.{to_bits}
 use Rattle.lists.specs.Results.{keep}
+use Rattle.region.specs.declared.Region.{Region}
 use Rattle.take.specs.Text.{hex, decimal, line}
 
 -- what a listing tells: the pitches as given and as left, the region, and the four lists
 pub record Marks : Type 0 where
   pub given : List Float
   pub left : List Float
-  pub found : Bool
-  pub start : ℕ
-  pub end : ℕ
+  pub region : Option Region
   pub frames : List ℕ
   pub strengths : List Float
   pub extra_frames : List ℕ
@@ -20,8 +19,8 @@ pub record Marks : Type 0 where
   pub edges : List ℕ
   pub boundaries : List ℕ
 
-abbrev pub told_of : List Float → List Float → Bool → ℕ → ℕ → List ℕ → List Float → List ℕ → List Float → List ℕ → List ℕ → Marks
-told_of given left found start end frames strengths xframes xstrengths edges bounds = record { given = given; left = left; found = found; start = start; end = end; frames = frames; strengths = strengths; extra_frames = xframes; extra_strengths = xstrengths; edges = edges; boundaries = bounds }
+abbrev pub told_of : List Float → List Float → Option Region → List ℕ → List Float → List ℕ → List Float → List ℕ → List ℕ → Marks
+told_of given left region frames strengths xframes xstrengths edges bounds = record { given = given; left = left; region = region; frames = frames; strengths = strengths; extra_frames = xframes; extra_strengths = xstrengths; edges = edges; boundaries = bounds }
 
 -- the words, in ASCII
 abbrev pub pitch_word : List ℕ
@@ -75,13 +74,14 @@ unfoldable pub pitch_lines : List Float → List Float → List ℕ
 pitch_lines given left = flat_map (λ (i : ℕ). mark_line pitch_word i (get_or left i nan)) (keep (λ (i : ℕ). repitched (get_or given i nan) (get_or left i nan)) 0 (length left))
 
 -- the region's two ends, or that there is none
-unfoldable pub region_line : Bool → ℕ → ℕ → List ℕ
-region_line found start end = cond found (line region_word (decimal start ∷ decimal end ∷ [])) (line region_word (none_word ∷ []))
+unfoldable pub region_line : Option Region → List ℕ
+region_line None = line region_word (none_word ∷ [])
+region_line (Some r) = line region_word (decimal r.start ∷ decimal r.end ∷ [])
 
 unfoldable pub listing : Marks → List ℕ
 listing m =
     pitch_lines m.given m.left
-    ++ (region_line m.found m.start m.end
+    ++ (region_line m.region
     ++ (mark_lines nucleus_word m.frames m.strengths
     ++ (mark_lines extra_word m.extra_frames m.extra_strengths
     ++ (frame_lines edge_word m.edges

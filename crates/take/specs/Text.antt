@@ -1,6 +1,5 @@
--- Text in ASCII: numbers, words and lines, and a text that is written to a lent list. Definitions only.
-use Rattle.std.specs.Prelude.{ℕ, zero, suc, ◌+◌, ◌/◌, ◌%◌, ◌≤◌, ◌≡◌, cond, List, [], ◌∷◌, ◌++◌, ltb, length, take, drop}
-use Rattle.lists.specs.Results.{overlay}
+-- Text in ASCII: numbers, words and lines. Definitions only.
+use Rattle.std.specs.Prelude.{ℕ, zero, suc, ◌+◌, ◌/◌, ◌%◌, cond, List, [], ◌∷◌, ◌++◌, ltb}
 
 -- a digit below 16: `0` to `9`, then `a` to `f`
 unfoldable pub glyph : ℕ → ℕ
@@ -32,9 +31,3 @@ after_word (w ∷ ws) = 32 ∷ (w ++ after_word ws)
 -- a line of words, of which there is one at least
 abbrev pub line : List ℕ → List (List ℕ) → List ℕ
 line w ws = w ++ after_word ws
-
--- what a call leaves that writes `text` after the first `at` bytes of a lent list and returns how many that makes: `old` is lent, `new` comes back
-pub record Put (text : List ℕ) (at : ℕ) (old new : List ℕ) (r : ℕ) : Type 0 where
-  pub count : r ≡ at + length text
-  pub room : r ≤ length old
-  pub bytes : new ≡ take at old ++ overlay text (drop at old)

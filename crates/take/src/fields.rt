@@ -2,20 +2,12 @@
 ghost use Rattle.std.specs.Prelude.{◌≡◌, ◌+◌, ◌<◌, ◌≤◌, length};
 ghost use Rattle.take.specs.Fields.{half_at, word_at, float_at};
 
-fn wide(x: u8) -> u32
-    ensures { (result ≡ x) × (result < 256) }
-{
-    x as u32
-}
-
 // The number of the two bytes from `at` on.
 pub fn half_at(s: &[u8], at: usize) -> u32
     requires { at + 2 ≤ length s.now }
     ensures { (result ≡ half_at s.now at) × (result < 65536) }
 {
-    let a = wide(s[at]);
-    let b = wide(s[at + 1]);
-    a * 256 + b
+    u32::from(u16::from_be_bytes([s[at], s[at + 1]]))
 }
 
 // The number of the four bytes from `at` on.
@@ -23,11 +15,7 @@ pub fn word_at(s: &[u8], at: usize) -> u32
     requires { at + 4 ≤ length s.now }
     ensures { result ≡ word_at s.now at }
 {
-    let a = wide(s[at]);
-    let b = wide(s[at + 1]);
-    let c = wide(s[at + 2]);
-    let d = wide(s[at + 3]);
-    ((a * 256 + b) * 256 + c) * 256 + d
+    u32::from_be_bytes([s[at], s[at + 1], s[at + 2], s[at + 3]])
 }
 
 // The f32 whose pattern the four bytes from `at` on are.

@@ -1,8 +1,10 @@
 // Reading a take file: a head of 19 bytes, then a record of 17 bytes for each frame.
 ghost use Rattle.std.specs.Prelude.{◌≡◌, ◌+◌, ◌*◌, ◌≤◌, length, drop};
+ghost use Rattle.admit.specs.Numbers.{number_of};
 ghost use Rattle.take.specs.File.{frame_count, agrees, refusal_by, records, track_at, marks_in, settings_in, take_in};
 
 use super::fields::{float_at, half_at, word_at};
+use admit::numbers::Refusal;
 use region::Settings;
 
 // The most frames of a take.
@@ -38,41 +40,38 @@ fn bytes_agree(head: &[u8], size: usize) -> bool
     size == 4 + length
 }
 
-// The number of a file's refusal, by its first bytes and its size: 11 where they do not agree, then 1 where they agree on
-// more frames than a take has, 0 for a take.
-pub fn take_refusal(head: &[u8], size: usize) -> u32
-    ensures { result ≡ refusal_by head.now size }
+// The refusal of a file, by its first bytes and its size: where they do not agree, then where they agree on more frames than
+// a take has.
+pub fn take_refusal(head: &[u8], size: usize) -> Result<(), Refusal>
+    ensures { number_of result ≡ refusal_by head.now size }
 {
-    if bytes_agree(head, size) {
-        if frames_in(head) <= MAX_FRAMES {
-            return 0;
-        }
-        return 1;
+    if !bytes_agree(head, size) {
+        return Err(Refusal::Bytes);
     }
-    11
+    if frames_in(head) > MAX_FRAMES {
+        return Err(Refusal::Lengths);
+    }
+    Ok(())
 }
 
-// Reads the f32 at `at` of each record to a track: dB at 0, pitch at 4, `voiced_p` at 8, sonority at 12.
+// Reads the f32 at `at` of each record to a track: dB at 0, pitch at 4, `voiced_p` at 8, sonority at 12. Apart from
+// `read_marks`, since it reads numbers of four bytes, at a place that is given.
 pub fn read_track(file: &[u8], at: usize, track: &mut [f32])
     requires { (at + 4 ≤ 17) × (19 + 17 * length track.old ≤ length file.now) }
     ensures { track.new ≡ track_at at (records (length track.old) (drop 19 file.now)) }
 {
-    let mut i: usize = 0;
-    while i < track.len() {
+    for i in 0..track.len() {
         track[i] = float_at(file, HEAD + RECORD * i + at);
-        i += 1;
     }
 }
 
-// Reads the byte that ends each record to a list of marks.
+// Reads the byte that ends each record to a list of marks. Apart from `read_track`, since it reads bytes, at one place.
 fn read_marks(file: &[u8], marks: &mut [u8])
     requires { 19 + 17 * length marks.old ≤ length file.now }
     ensures { marks.new ≡ marks_in (records (length marks.old) (drop 19 file.now)) }
 {
-    let mut i: usize = 0;
-    while i < marks.len() {
+    for i in 0..marks.len() {
         marks[i] = file[HEAD + RECORD * i + 16];
-        i += 1;
     }
 }
 

@@ -1,15 +1,16 @@
 // The entries over plain lists that stand for a caller's lists of records: each is refused as these would be, by the room that they
 // have. No take has more than 2,048 nuclei, so lists of that many entries stand for any.
+// Parameters are as in the C interface.
 #![tactic(auto)]
 
 ghost use Rattle.std.specs.Prelude.{◌≤◌, length, take};
-ghost use Rattle.entries.specs.Stages.{BoundariesWithCall, BoundariesCall};
-ghost use Rattle.chain.specs.Chain.{take_of, lists_of};
+ghost use Rattle.entries.specs.Stages.{answer_of, counted_of, BoundariesWithCall, BoundariesCall};
+ghost use Rattle.chain.specs.Chain.{take_of, lists_of, marks_for};
 ghost use Rattle.within.specs.Within.{Scratch, NucleiWithin, ExtrasWithin, ChainWithin};
 
-use chain::Marks;
-use entries::stages::{Answer, Counted};
-use lists::sizes::smaller;
+use admit::numbers::Refusal;
+use chain::Marked;
+use extra::Counts;
 use region::Settings;
 
 // The nuclei of start..end in two lists, refused as a list of room records would be.
@@ -22,12 +23,12 @@ pub fn nuclei_within(
     frames: &mut [u32],
     strengths: &mut [f32],
     room: usize,
-) -> Answer
+) -> Result<usize, Refusal>
     requires { Scratch frames.old strengths.old }
     ensures { NucleiWithin db.now pitch.now start end p room frames.new
-        strengths.new result }
+        strengths.new (answer_of result) }
 {
-    let k = smaller(room, 2048);
+    let k = room.min(2048);
     entries::stages::nuclei(
         db,
         pitch,
@@ -53,13 +54,13 @@ pub fn extras_within(
     frames: &mut [u32],
     strengths: &mut [f32],
     room: usize,
-) -> Counted
+) -> Result<Counts, Refusal>
     requires { (count ≤ length given.now) × Scratch frames.old strengths.old }
     ensures { ExtrasWithin db.now pitch.now sonority.now start end
         (take count given.now) p room frames.new strengths.new edges.old
-        edges.new result }
+        edges.new (counted_of result) }
 {
-    let k = smaller(room, 2048);
+    let k = room.min(2048);
     entries::stages::extras(
         db,
         pitch,
@@ -85,10 +86,10 @@ pub fn boundaries_with_given(
     count: usize,
     p: Settings,
     out: &mut [u32],
-) -> Answer
+) -> Result<usize, Refusal>
     requires { count ≤ length given.now }
     ensures { BoundariesWithCall db.now pitch.now voiced.now start end
-        (take count given.now) p out.old out.new result }
+        (take count given.now) p out.old out.new (answer_of result) }
 {
     entries::stages::boundaries_with(db, pitch, voiced, start, end, &given[..count], p, out)
 }
@@ -103,10 +104,10 @@ pub fn boundaries_given(
     given: &[u32],
     count: usize,
     out: &mut [u32],
-) -> Answer
+) -> Result<usize, Refusal>
     requires { count ≤ length given.now }
     ensures { BoundariesCall db.now pitch.now voiced.now start end
-        (take count given.now) out.old out.new result }
+        (take count given.now) out.old out.new (answer_of result) }
 {
     entries::stages::boundaries(db, pitch, voiced, start, end, &given[..count], out)
 }
@@ -128,17 +129,17 @@ pub fn chain_within(
     xstrengths: &mut [f32],
     room: usize,
     xroom: usize,
-) -> Marks
+) -> Result<Marked, Refusal>
     requires { Scratch frames.old strengths.old × Scratch xframes.old xstrengths.old }
     ensures { ChainWithin
         (take_of db.now pitch.old voiced.now sonority.now vowel.now
         samples.now p) room xroom edges.old bounds.old
         (lists_of frames.new strengths.new xframes.new xstrengths.new
         edges.new bounds.new)
-        pitch.new result }
+        pitch.new (marks_for result) }
 {
-    let k = smaller(room, 2048);
-    let x = smaller(xroom, 2048);
+    let k = room.min(2048);
+    let x = xroom.min(2048);
     chain::chain(
         db,
         pitch,

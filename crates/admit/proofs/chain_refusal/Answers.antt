@@ -13,7 +13,7 @@ returns-then-not-tracks-sonority c = stop _ _ _ c.if-not-tracks-sonority.true
 pub returns : goal.returns
 unfolding chain_refusal refusal tested passed_in_turn
 returns c =
-    numbered _ _ c.number_of.ensures
+    numbered _ _ c.first_refusal.ensures
     (next (sym c.if-not-tracks-sonority.false)
     (next refl
     (next c.settings_admitted.ensures

@@ -12,7 +12,7 @@ returns-then-not-tracks-nuclei c = stop _ _ _ c.if-not-tracks-nuclei.true
 pub returns : goal.returns
 unfolding extras_refusal refusal tested passed_in_turn
 returns c =
-    numbered _ _ c.number_of.ensures
+    numbered _ _ c.first_refusal.ensures
     (next (sym c.if-not-tracks-nuclei.false)
     (next refl
     (next c.settings_admitted.ensures

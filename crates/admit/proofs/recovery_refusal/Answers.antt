@@ -13,7 +13,7 @@ returns-then-not-pitch-speech c = stop _ _ _ c.if-not-pitch-speech.true
 pub returns : goal.returns
 unfolding recovery_refusal refusal tested passed_in_turn
 returns c =
-    numbered _ _ c.number_of.ensures
+    numbered _ _ c.first_refusal.ensures
     (next (sym c.if-not-pitch-speech.false)
     (next refl (next refl (next refl
     (next (rw (n20, n4000) at c.all_pitches.ensures)

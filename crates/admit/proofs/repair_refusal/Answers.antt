@@ -13,7 +13,7 @@ returns-then-pitch-gt-MAX_FRAMES c = stop _ _ _ (lt-leb _ _ c.if-pitch-gt-MAX_FR
 pub returns : goal.returns
 unfolding repair_refusal refusal tested passed_in_turn
 returns c =
-    numbered _ _ c.number_of.ensures
+    numbered _ _ c.first_refusal.ensures
     (next (sym (le-leb _ _ c.if-pitch-gt-MAX_FRAMES.false))
     (next refl (next refl (next refl
     (next (rw (n40, n2000) at c.all_pitches.ensures)

@@ -12,7 +12,7 @@ returns-then-n-gt-MAX_FRAMES c = stop _ _ _ (lt-leb _ _ c.if-n-gt-MAX_FRAMES.tru
 pub returns : goal.returns
 unfolding speech_refusal refusal tested passed_in_turn
 returns c =
-    numbered _ _ c.number_of.ensures
+    numbered _ _ c.first_refusal.ensures
     (next (sym (le-leb _ _ c.if-n-gt-MAX_FRAMES.false))
     (next refl
     (next c.settings_admitted.ensures

@@ -21,10 +21,10 @@ slice_bounds-boundaries_with-end-2 c = listed_count c.nuclei-n.ensures.0
 pub boundaries_with-bs-requires : goal.boundaries_with-bs-requires
 boundaries_with-bs-requires c =
     let f = c.nuclei-n.ensures.0 in
-    record { start_le_end = (c.requires.db_len_bound.3, c.requires.db_len_bound.4, c.requires.db_len_bound.0, c.requires.db_len_bound.1, c.requires.db_len_bound.2); strictly_rises = lent_rises c.args.db.now c.args.pitch.now c.args.voiced.now c.args.sonority.now c.args.p c.args.start c.args.end c.requires.db_len_bound.4 f; db_in_bounds = c.requires.room.5 }
+    record { start_le_end = (c.requires.db_len_bound.3, c.requires.db_len_bound.4, c.requires.db_len_bound.0, c.requires.db_len_bound.1, c.requires.db_len_bound.2); strictly_rises = lent_rises c.args.t.db.now c.args.t.pitch.now c.args.t.voiced.now c.args.t.sonority.now c.args.p c.args.region.start c.args.region.end c.requires.db_len_bound.4 f; db_in_bounds = c.requires.room.5 }
 
 pub returns : goal.returns
 returns c =
     let n = c.nuclei-n.ensures in
     let x = c.extra_candidates-x.ensures in
-    told c.args.db.now c.args.pitch.now c.args.voiced.now c.args.sonority.now c.args.p c.args.start c.args.end n.0 n.1 x.0 x.1 x.2 c.boundaries_with-bs.ensures
+    told c.args.t.db.now c.args.t.pitch.now c.args.t.voiced.now c.args.t.sonority.now c.args.p c.args.region.start c.args.region.end n.0 n.1 x.0 x.1 x.2 c.boundaries_with-bs.ensures

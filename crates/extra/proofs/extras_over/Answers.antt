@@ -1,37 +1,53 @@
 -- `extra::extras_over` meets its contract: the parts are composed. Assumes nothing.
 use native.Mathlib.Omega.{arith}
-use mathlib.Core.Path.{sym}
-use lib.Seq.{length-take-le}
-use Rattle.lists.proofs.Fill.{listed_take, listed_fits, listed_count}
-use Rattle.extra.specs.Extra.{extra_frames, extra_edges}
+use mathlib.Core.Path.{◌≡◌, sym, ◌∙◌}
+use lib.ListN.{length}
+use Rattle.std.proofs.Common.{rules}
+use Rattle.lists.specs.Sorted.{StrictlyRises}
+use Rattle.lists.proofs.Members.{strict_below, strict_to}
+use Rattle.extra.specs.Unpitched.{unpitched_peaks}
+use Rattle.extra.specs.Extra.{extras_from, edges_from, extra_frames, extra_edges}
 use Rattle.extra.proofs.Voiceless.{peaks_rise}
-use Rattle.extra.proofs.Whole.{listed_rises, front_rises, anchors_rise}
+use Rattle.extra.proofs.Anchoring.{marked_is}
+use Rattle.extra.proofs.Whole.{anchors_rise}
 use Rattle.extra.proofs.extras_over.Goals as goal
+use Rattle.extra.proofs.extras_over.Goals.{After-merged-kept}
 
-pub slice_bounds-peaks-end : goal.slice_bounds-peaks-end
-slice_bounds-peaks-end c = listed_fits c.unpitched_peaks-u.ensures
+pub merged-kept-requires : goal.merged-kept-requires
+merged-kept-requires c = (c.requires.same_length.0, rw (c.deref.ensures.0 ∙ c.unpitched_peaks-peaks.ensures) (peaks_rise _ _ _ _))
 
-pub slice_bounds-merged-end : goal.slice_bounds-merged-end
-slice_bounds-merged-end c = listed_count c.unpitched_peaks-u.ensures
+kept_rises : (c : After-merged-kept) → StrictlyRises 0 (length c.args.r.level.now) c.merged-kept.result.items
+kept_rises c = rw c.merged-kept.ensures (anchors_rise _ _ _ _)
 
-pub merged-k-requires : goal.merged-k-requires
-merged-k-requires c = (c.requires.same_length.0.0, omega arith, listed_rises _ c.unpitched_peaks-u.ensures (peaks_rise _ _ _ _))
+-- a track has 2,048 frames at most
+kept_short : (c : After-merged-kept) → StrictlyRises 0 2048 c.merged-kept.result.items
+kept_short c = strict_to 0 (length c.args.r.level.now) 2048 c.merged-kept.result.items c.requires.same_length.0 (kept_rises c)
 
-pub slice_bounds-peaks-end-2 : goal.slice_bounds-peaks-end-2
-slice_bounds-peaks-end-2 c = listed_fits c.unpitched_peaks-u.ensures
+pub second_syllables-seconds-requires : goal.second_syllables-seconds-requires
+second_syllables-seconds-requires c = (
+  omega (arith, c.requires.same_length),
+  c.requires.same_length.1 ∙ sym c.requires.same_length.2,
+  rw c.deref-3.ensures.0 (kept_short (goal.at.second_syllables-seconds-requires c).After-merged-kept),
+)
 
-pub slice_bounds-extras_from-end : goal.slice_bounds-extras_from-end
-slice_bounds-extras_from-end c = listed_count c.unpitched_peaks-u.ensures
+pub all_frames-found-requires : goal.all_frames-found-requires
+all_frames-found-requires c = (rw c.deref-4.ensures.0 (kept_short (goal.at.all_frames-found-requires c).After-merged-kept), omega arith)
 
-pub slice_bounds-kept-end : goal.slice_bounds-kept-end
-slice_bounds-kept-end c = c.merged-k.ensures.within
-
-pub slice_bounds-extras_from-end-2 : goal.slice_bounds-extras_from-end-2
-slice_bounds-extras_from-end-2 c = sym (length-take-le _ _ c.merged-k.ensures.within)
-
-pub extras_from-requires : goal.extras_from-requires
-extras_from-requires c = record { same_length = c.requires.same_length.0; strictly_rises = (listed_rises _ c.unpitched_peaks-u.ensures (peaks_rise _ _ _ _), front_rises _ c.merged-k.ensures (anchors_rise _ _ _ _)); s_in_bounds = (c.requires.s_in_bounds.0, c.requires.s_in_bounds.1, c.requires.s_in_bounds.2) }
+pub all_edges-between-requires : goal.all_edges-between-requires
+all_edges-between-requires c = (c.requires.same_length.0, rw c.deref-6.ensures.0 (kept_rises (goal.at.all_edges-between-requires c).After-merged-kept), omega arith)
 
 pub returns : goal.returns
-unfolding extra_frames extra_edges
-returns c = rw (c.merged-k.ensures.entries, listed_take c.unpitched_peaks-u.ensures) at c.extras_from.ensures
+unfolding extra_frames extra_edges extras_from edges_from
+returns c =
+    let s = c.args.r.level.now in
+    let peaks = c.unpitched_peaks-peaks.ensures in
+    let kept = rw (c.deref.ensures.0 ∙ peaks) at c.merged-kept.ensures in
+    let seconds = rw (c.deref-3.ensures.0 ∙ kept) at c.second_syllables-seconds.ensures in
+    let m = c.marks-is_peak in
+    let many : length m.result ≡ 2048 = search (rules, m.type_inv) in
+    let ps = unpitched_peaks s c.args.pitch.now c.args.son.now c.args.r.bounds in
+    let mark = marked_is ps m.result (rw (c.deref-2.ensures.0 ∙ peaks) at m.ensures) many (strict_below 0 2048 ps (strict_to 0 (length s) 2048 ps c.requires.same_length.0 (peaks_rise _ _ _ _))) in
+    let found = rw (mark, c.deref-4.ensures.0 ∙ kept, c.deref-5.ensures.0 ∙ seconds) at c.all_frames-found.ensures in
+    let between = rw (mark, c.deref-6.ensures.0 ∙ kept, c.deref-7.ensures.0 ∙ seconds) at c.all_edges-between.ensures in
+    let w = rw (c.deref-8.ensures.0 ∙ found) at c.write_extras.ensures in
+    (w.0, w.1, rw (c.deref-9.ensures.0 ∙ between) at c.in_order.ensures)

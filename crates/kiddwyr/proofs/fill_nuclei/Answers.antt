@@ -4,17 +4,14 @@ use Rattle.kiddwyr.proofs.Filling.{none_over, one_over}
 use Rattle.kiddwyr.proofs.fill_nuclei.Goals as goal
 
 pub loop-i-init : goal.loop-i-init
-loop-i-init c = record { turns = omega arith; laid = sym (none_over c.args.out.now c.args.frames.now c.args.strengths.now) }
+loop-i-init c = sym (none_over c.args.out.now c.args.frames.now c.args.strengths.now)
 
 pub loop-i-preserved : goal.loop-i-preserved
 loop-i-preserved c =
     let i = c.loop-i.i in
-    record {
-      turns = omega arith;
-      laid = rw (c.loop-i.invariant.laid, add-one i) (one_over c.args.out.now c.args.frames.now c.args.strengths.now i (omega (arith, c.requires.0)) (omega (arith, c.requires.1)) (omega (arith, c.requires.2)));
-    }
+    rw (c.loop-i.invariant, add-one i) (one_over c.args.out.now c.args.frames.now c.args.strengths.now i (omega (arith, c.requires.0)) (omega (arith, c.requires.1)) (omega (arith, c.requires.2)))
 
 pub returns : goal.returns
 returns c =
     let e : c.loop-i.i ≡ c.args.count = omega arith in
-    rw (c.loop-i.invariant.laid, e) refl
+    rw (c.loop-i.invariant, e) refl

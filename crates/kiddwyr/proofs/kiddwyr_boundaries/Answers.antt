@@ -9,4 +9,5 @@ boundaries_given-requires c = listed_fits c.take_frames-count.ensures
 pub returns : goal.returns
 returns c =
     let a = c.args in
-    bounds_done a.nuclei.now 0 c.take_frames-count.ensures a.db.now a.pitch.now a.voiced.now a.start a.end c.boundaries_given.ensures
+    let e = rw (← c.from.ensures) at c.boundaries_given.ensures in
+    bounds_done a.nuclei.now 0 c.take_frames-count.ensures a.db.now a.pitch.now a.voiced.now a.start a.end e

@@ -6,13 +6,14 @@ use Rattle.kiddwyr.proofs.Chained.{recorded}
 use Rattle.kiddwyr.proofs.kiddwyr_chain.Goals as goal
 
 pub fill_nuclei-requires : goal.fill_nuclei-requires
-fill_nuclei-requires c = laid_room c.chain_within-marks.ensures.2
+fill_nuclei-requires c = let e = rw (← c.from-marks.ensures) at c.chain_within.ensures in laid_room e.2
 
 pub fill_nuclei-requires-2 : goal.fill_nuclei-requires-2
-fill_nuclei-requires-2 c = laid_room c.chain_within-marks.ensures.3
+fill_nuclei-requires-2 c = let e = rw (← c.from-marks.ensures) at c.chain_within.ensures in laid_room e.3
 
 pub returns : goal.returns
 returns c =
     let a = c.args in
+    let e = rw (← c.from-marks.ensures) at c.chain_within.ensures in
     let t = take_of a.db.now a.pitch.now a.voiced.now a.sonority.now a.vowel.now a.samples.now a.p in
-    recorded t (lists_of a.nuclei.now a.extras.now a.edges.now a.bounds.now) c.chain_within-marks.ensures c.fill_nuclei.ensures c.fill_nuclei-2.ensures
+    recorded t (lists_of a.nuclei.now a.extras.now a.edges.now a.bounds.now) e c.fill_nuclei.ensures c.fill_nuclei-2.ensures

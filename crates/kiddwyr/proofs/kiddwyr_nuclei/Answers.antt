@@ -3,9 +3,9 @@ use Rattle.kiddwyr.proofs.Wrapped.{laid_room, laid_listed}
 use Rattle.kiddwyr.proofs.kiddwyr_nuclei.Goals as goal
 
 pub fill_nuclei-requires : goal.fill_nuclei-requires
-fill_nuclei-requires c = laid_room c.nuclei_within-answer.ensures.1
+fill_nuclei-requires c = let e = rw (← c.from-answer.ensures) at c.nuclei_within.ensures in laid_room e.1
 
 pub returns : goal.returns
 returns c =
-    let e = c.nuclei_within-answer.ensures in
+    let e = rw (← c.from-answer.ensures) at c.nuclei_within.ensures in
     (e.0, laid_listed e.1 c.fill_nuclei.ensures)

@@ -5,17 +5,14 @@ use Rattle.kiddwyr.proofs.Given.{taken_listed}
 use Rattle.kiddwyr.proofs.take_frames.Goals as goal
 
 pub loop-i-init : goal.loop-i-init
-loop-i-init c = record { turns = omega arith; laid = sym (no_frames_over c.args.frames.now c.args.nuclei.now) }
+loop-i-init c = sym (no_frames_over c.args.frames.now c.args.nuclei.now)
 
 pub loop-i-preserved : goal.loop-i-preserved
 loop-i-preserved c =
     let i = c.loop-i.i in
-    record {
-      turns = omega arith;
-      laid = rw (c.loop-i.invariant.laid, add-one i) (one_frame_over c.args.frames.now c.args.nuclei.now i (omega arith) (omega arith));
-    }
+    rw (c.loop-i.invariant, add-one i) (one_frame_over c.args.frames.now c.args.nuclei.now i (omega arith) (omega arith))
 
 pub returns : goal.returns
 returns c =
-    let e : c.loop-i.i ≡ c.smaller-count.result = omega arith in
-    rw (c.loop-i.invariant.laid, e) (taken_listed c.args.frames.now c.args.nuclei.now _ c.smaller-count.ensures)
+    let e : c.loop-i.i ≡ c.min-count.result = omega arith in
+    rw (c.loop-i.invariant, e) (taken_listed c.args.frames.now c.args.nuclei.now _ c.min-count.ensures)

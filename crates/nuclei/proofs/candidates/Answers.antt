@@ -1,40 +1,28 @@
 -- `nuclei::candidates` meets its contract: the parts are composed. Assumes nothing.
 use native.Mathlib.Omega.{arith}
-use Rattle.lists.proofs.Fill.{listed_fits, listed_count}
-use Rattle.nuclei.proofs.Whole.{extrema_room, peaks_room, candidates_whole}
+use Prim.Native.Nat.{◌≤◌}
+use mathlib.Core.Path.{◌≡◌, ◌∙◌}
+use lib.ListN.{length}
+use Rattle.nuclei.specs.Peaks.{voiced_peaks}
+use Rattle.nuclei.specs.Tops.{unheld}
+use Rattle.nuclei.specs.Nuclei.{candidates}
+use Rattle.nuclei.proofs.Whole.{peaks_few}
 use Rattle.nuclei.proofs.candidates.Goals as goal
+use Rattle.nuclei.proofs.candidates.Goals.{After-peaks_onto}
 
-pub slice_bounds-peaks-end : goal.slice_bounds-peaks-end
-slice_bounds-peaks-end c = listed_fits c.local_extrema-m.ensures
+found : (c : After-peaks_onto) → c.peaks_onto.new.out.items ≡ voiced_peaks c.args.r.level.now c.args.pitch.now c.args.r.bounds c.args.runs.now
+unfolding voiced_peaks
+found c = rw (c.new-found.ensures, c.deref.ensures.0 ∙ c.local_extrema-peaks.ensures) at c.peaks_onto.ensures
 
-pub slice_bounds-peaks_onto-end : goal.slice_bounds-peaks_onto-end
-slice_bounds-peaks_onto-end c = listed_count c.local_extrema-m.ensures
+few : (c : After-peaks_onto) → length c.peaks_onto.new.out.items ≤ length c.args.r.level.now
+few c = rw (found c) (peaks_few c.args.r.level.now c.args.pitch.now c.args.r.bounds c.args.runs.now)
 
-pub peaks_onto-c-requires : goal.peaks_onto-c-requires
-peaks_onto-c-requires c = (c.requires.1, c.requires.2, omega (arith, extrema_room c.args.s.now c.args.b c.local_extrema-m.ensures))
-
-pub slice_bounds-runs_held-end : goal.slice_bounds-runs_held-end
-slice_bounds-runs_held-end c = listed_fits c.peaks_onto-c.ensures
-
-pub slice_bounds-runs_held-end-2 : goal.slice_bounds-runs_held-end-2
-slice_bounds-runs_held-end-2 c = listed_count c.peaks_onto-c.ensures
-
-pub runs_held-h-requires : goal.runs_held-h-requires
-runs_held-h-requires c = (c.requires.2, omega (arith, peaks_room _ _ c.local_extrema-m.ensures _ _ c.peaks_onto-c.ensures))
-
-pub slice_bounds-held-end : goal.slice_bounds-held-end
-slice_bounds-held-end c = listed_fits c.runs_held-h.ensures
-
-pub slice_bounds-run_tops-end : goal.slice_bounds-run_tops-end
-slice_bounds-run_tops-end c = listed_count c.runs_held-h.ensures
+pub runs_held-held-requires : goal.runs_held-held-requires
+runs_held-held-requires c = rw c.deref-2.ensures.0 (omega arith, (omega arith, omega (arith, few (goal.at.runs_held-held-requires c).After-peaks_onto)))
 
 pub run_tops-requires : goal.run_tops-requires
-run_tops-requires c =
-    let q = c.peaks_onto-c in
-    (c.requires.0, c.requires.1, c.requires.2, omega (arith, listed_count q.ensures, peaks_room _ _ c.local_extrema-m.ensures _ _ q.ensures, q.auto.out))
+run_tops-requires c = (omega arith, (omega arith, omega arith, omega (arith, few (goal.at.run_tops-requires c).After-peaks_onto)))
 
 pub returns : goal.returns
-returns c =
-    candidates_whole _ _ c.local_extrema-m.ensures _ _
-    c.peaks_onto-c.ensures _ c.runs_held-h.ensures
-    c.run_tops.ensures
+unfolding candidates unheld
+returns c = rw (c.deref-3.ensures.0 ∙ c.runs_held-held.ensures, c.deref-2.ensures.0, found (goal.at.returns c).After-peaks_onto) at c.run_tops.ensures

@@ -1,19 +1,13 @@
--- `recover_pitch` meets its contract: the parts that it lends have the track's length. Assumes nothing.
-use mathlib.Core.Path.{sym}
-use native.Mathlib.Nat.{le_trans, le_of_eq}
-use lib.ListN.{length}
-use lib.Seq.{length-take-le}
+-- `recover_pitch` meets its contract: the two steps one after the other. Assumes nothing.
+use Rattle.nsdf.specs.Period.{period_hz}
+use Rattle.nsdf.proofs.Range.{period_range}
+use Rattle.recover.specs.Recovered.{recovered_by}
+use Rattle.recover.proofs.Trying.{estimates_range}
 use Rattle.recover.proofs.recover_pitch.Goals as goal
 
-pub slice_bounds-recover_in-end : goal.slice_bounds-recover_in-end
-slice_bounds-recover_in-end c =
-    let b = c.blank_estimates-found in
-    sym (length-take-le (length c.args.pitch.now) b.result (le_trans c.requires (le_of_eq (sym b.ensures))))
+pub recover_stretches-requires-clause-each : goal.recover_stretches-requires-clause-each
+recover_stretches-requires-clause-each c = rw c.estimates.ensures (estimates_range (period_hz c.args.samples.now) _ _ _ (period_range c.args.samples.now))
 
-pub slice_bounds-recover_in-end-2 : goal.slice_bounds-recover_in-end-2
-slice_bounds-recover_in-end-2 c =
-    let b = c.blank_track-given in
-    sym (length-take-le (length c.args.pitch.now) b.result (le_trans c.requires (le_of_eq (sym b.ensures))))
-
-pub recover_in-requires : goal.recover_in-requires
-recover_in-requires c = let n = length c.args.pitch.now in record { pitch_len_bound = c.requires; found_len = length-take-le n c.blank_estimates-found.result (le_trans c.requires (le_of_eq (sym c.blank_estimates-found.ensures))); given_len = length-take-le n c.blank_track-given.result (le_trans c.requires (le_of_eq (sym c.blank_track-given.ensures))) }
+pub returns : goal.returns
+unfolding recovered_by
+returns c = rw (c.recover_stretches.ensures, c.estimates.ensures, c.copy_from_slice.ensures.after)

@@ -1,5 +1,5 @@
 -- `region::floor_db` meets its contract. Assumes nothing.
-use Rattle.std.proofs.Common.{◌≡◌, ℕ, T, List, map, length, take, sym, ap, ◌∙◌, arith}
+use Rattle.std.proofs.Common.{◌≡◌, ℕ, T, Some, List, map, length, take, sym, ap, ◌∙◌, arith}
 use lib.ListN.{length-map}
 use lib.Ieee.{nan, binary32, fits}
 use lib.Ieee.Scale.{finite}
@@ -8,7 +8,6 @@ use Rattle.lists.specs.Sorted.{sorted}
 use Rattle.lists.proofs.Entries.{at_each}
 use Rattle.lists.proofs.Fill.{listed_take, filter_le}
 use Rattle.lists.proofs.Keys.{Held}
-use Rattle.region.specs.declared.Floor.TheVariants.{At}
 use Rattle.region.specs.Percentile.{tenth_of}
 use Rattle.region.proofs.Quiet.{finite_many, no_floor, floor_is}
 use Rattle.region.proofs.floor_db.Goals as goal
@@ -45,6 +44,6 @@ tenth-requires c =
 pub returns : goal.returns
 returns c =
     let n = c.count-n in
-    ap At c.tenth.ensures
-    ∙ ap (λ (z : List ℕ). At (tenth_of (map value_of (take n.result (sorted z))))) (taken (goal.at.returns c).After-finite_keys)
+    ap Some c.tenth.ensures
+    ∙ ap (λ (z : List ℕ). Some (tenth_of (map value_of (take n.result (sorted z))))) (taken (goal.at.returns c).After-finite_keys)
     ∙ floor_is _ n.result (held (goal.at.returns c).After-finite_keys) (finite_many _ (held (goal.at.returns c).After-finite_keys) (taken (goal.at.returns c).After-finite_keys) n.ensures) (omega (arith, c.if-n-eq0.false))

@@ -10,26 +10,11 @@ loop-lo-init c =
     let b = bounds c.args.keys.now c.args.k c.requires.k_in_bounds in
     (omega (arith, b, c.least-lo.ensures), omega (arith, b, c.greatest-hi.ensures), omega arith)
 
-pub overflow_sub-mid : goal.overflow_sub-mid
-overflow_sub-mid c = omega arith
-
-pub overflow_add-mid : goal.overflow_add-mid
-overflow_add-mid c = omega arith
-
-pub loop-lo-smaller-then-k-count : goal.loop-lo-smaller-then-k-count
-loop-lo-smaller-then-k-count c = omega arith
-
 pub loop-lo-preserved-then-k-count : goal.loop-lo-preserved-then-k-count
 loop-lo-preserved-then-k-count c =
     let v = c.loop-lo in
     let mid = v.lo + (v.hi - v.lo) / 2 in
     (v.invariant.0, not_above c.args.keys.now c.args.k c.requires.k_in_bounds mid (subst (λ (n : ℕ). c.args.k < n) c.count.ensures c.if-k-count.true), omega arith)
-
-pub overflow_add-lo : goal.overflow_add-lo
-overflow_add-lo c = omega arith
-
-pub loop-lo-smaller : goal.loop-lo-smaller
-loop-lo-smaller c = omega arith
 
 pub loop-lo-preserved : goal.loop-lo-preserved
 loop-lo-preserved c =
@@ -37,6 +22,3 @@ loop-lo-preserved c =
     let mid = v.lo + (v.hi - v.lo) / 2 in
     let a = is_above c.args.keys.now c.args.k c.requires.k_in_bounds mid (subst (λ (n : ℕ). n ≤ c.args.k) c.count.ensures c.if-k-count.false) in
     (omega (arith, a), v.invariant.1, v.invariant.2)
-
-pub returns : goal.returns
-returns c = omega arith

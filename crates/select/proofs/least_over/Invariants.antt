@@ -1,12 +1,11 @@
--- `select::least_over` meets its contract. The loop's invariant: the smaller of b and the smallest of the keys from i on that are above x is the answer. Assumes nothing.
+-- `select::least_over` meets its contract. The loop's invariant: b is what the fold over the keys before k gives. Assumes nothing.
 use mathlib.Core.Path.{◌≡◌}
-use Prim.Native.Nat.{◌-◌, ◌≤◌, min}
-use lib.ListN.{length, drop}
-use Rattle.select.specs.Order.{least_above}
+use mathlib.Core.Bool.{cond}
+use Prim.Native.Nat.{min}
+use lib.Dec.{ltb}
+use lib.ListN.{take}
+use Rattle.std.specs.List.{fold}
 use Rattle.select.proofs.least_over.Given as goal
 
-abbrev pub invariant-loop-i : goal.invariant-loop-i
-invariant-loop-i l = (l.i ≤ length l.keys) × (l.b ≤ 4294967295) × (min l.b (least_above l.x (drop l.i l.keys)) ≡ least_above l.x l.keys)
-
-abbrev pub decreases-loop-i : goal.decreases-loop-i
-decreases-loop-i l = length l.keys - l.i
+abbrev pub invariant-loop-k : goal.invariant-loop-k
+invariant-loop-k l = l.b ≡ fold (λ b k. min b (cond (ltb l.x k) k 4294967295)) 4294967295 (take l.k-index l.keys)

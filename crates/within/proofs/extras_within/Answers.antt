@@ -12,17 +12,17 @@ pub slice_bounds-extras-end : goal.slice_bounds-extras-end
 slice_bounds-extras-end c = sym (length-take-le c.args.count c.args.given.now c.requires.0)
 
 pub slice_bounds-extras-end-3 : goal.slice_bounds-extras-end-3
-slice_bounds-extras-end-3 c = cut_long c.smaller-k.result c.args.frames.now _ c.smaller-k.ensures c.requires.1.0
+slice_bounds-extras-end-3 c = cut_long c.min-k.result c.args.frames.now _ c.min-k.ensures c.requires.1.0
 
 pub slice_bounds-extras-end-5 : goal.slice_bounds-extras-end-5
-slice_bounds-extras-end-5 c = cut_long c.smaller-k.result c.args.strengths.now _ c.smaller-k.ensures c.requires.1.1
+slice_bounds-extras-end-5 c = cut_long c.min-k.result c.args.strengths.now _ c.min-k.ensures c.requires.1.1
 
 pub returns : goal.returns
 returns c =
     let a = c.args in
     let pre = c.requires in
-    let k = c.smaller-k.result in
-    let least : k ≡ min a.room 2048 = c.smaller-k.ensures in
+    let k = c.min-k.result in
+    let least : k ≡ min a.room 2048 = c.min-k.ensures in
     let f : length (take k a.frames.now) ≡ min a.room 2048 = sym (cut_long k a.frames.now _ least pre.1.0) ∙ least in
     let s : length (take k a.strengths.now) ≡ min a.room 2048 = sym (cut_long k a.strengths.now _ least pre.1.1) ∙ least in
     let said = c.extras.ensures in (

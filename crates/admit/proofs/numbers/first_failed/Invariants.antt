@@ -1,12 +1,8 @@
--- `numbers::first_failed` meets its contract. Assumes nothing.
-use Prim.Native.Nat.{◌-◌}
-use mathlib.Core.Path.{◌≡◌}
-use lib.ListN.{length, drop}
+-- `numbers::first_failed` meets its contract. The loop's invariant: the rows that are left say the same as the table. Assumes nothing.
+use Rattle.std.proofs.Common.{◌≡◌, drop}
 use Rattle.admit.specs.First.{first_of}
+use Rattle.admit.specs.Numbers.{numbers_in, tests_in}
 use Rattle.admit.proofs.numbers.first_failed.Given as goal
 
-abbrev pub invariant-loop-i : goal.invariant-loop-i
-invariant-loop-i l = first_of (drop l.i l.numbers) (drop l.i l.passed) ≡ first_of l.numbers l.passed
-
-abbrev pub decreases-loop-i : goal.decreases-loop-i
-decreases-loop-i l = length l.passed - l.i
+abbrev pub invariant-loop-passed : goal.invariant-loop-passed
+invariant-loop-passed l = first_of (numbers_in (drop l.passed-index l.table)) (tests_in (drop l.passed-index l.table)) ≡ first_of (numbers_in l.table) (tests_in l.table)

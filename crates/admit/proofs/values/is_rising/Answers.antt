@@ -2,8 +2,8 @@
 use Rattle.admit.proofs.Every.{rising_turn, rising_end}
 use Rattle.admit.proofs.values.is_rising.Goals as goal
 
-pub loop-i-preserved : goal.loop-i-preserved
-loop-i-preserved c = rising_turn c.loop-i-test.true c.loop-i.invariant c.is_frame-good.ensures c.after-lo.ensures
+pub loop-x-preserved : goal.loop-x-preserved
+loop-x-preserved c = rising_turn c.loop-x-test.true c.loop-x.invariant c.is_frame-good.ensures c.after-lo.ensures
 
 pub returns : goal.returns
-returns c = rising_end c.loop-i-test.false c.loop-i.invariant
+returns c = rising_end c.loop-x-test.false c.loop-x.invariant

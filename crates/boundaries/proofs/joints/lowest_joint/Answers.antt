@@ -1,8 +1,5 @@
 -- `boundaries::joints::lowest_joint` meets its contract. Assumes nothing.
 use native.Mathlib.Omega.{arith}
-use mathlib.Core.Path.{ap}
-use mathlib.Core.List.{[], ◌∷◌}
-use Prim.Native.Nat.{ℕ}
 use Rattle.smooth.proofs.Best.{middle_within}
 use Rattle.smooth.specs.declared.extrema.Extremum.TheVariants.{Min}
 use Rattle.boundaries.proofs.joints.lowest_joint.Goals as goal
@@ -12,6 +9,3 @@ overflow_cast-result c =
     let args = c.args in
     let pre = c.requires in
     omega (arith, c.argmin_middle.ensures, middle_within Min args.level.now args.a args.b pre.0 pre.1)
-
-pub returns : goal.returns
-returns c = ap (λ (m : ℕ). m ∷ []) c.argmin_middle.ensures

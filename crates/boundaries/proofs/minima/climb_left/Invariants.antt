@@ -7,7 +7,4 @@ use Rattle.lists.proofs.Walks.{SeekingBack}
 use Rattle.boundaries.proofs.minima.climb_left.Given as goal
 
 abbrev pub invariant-loop-l : goal.invariant-loop-l
-invariant-loop-l l = SeekingBack (λ j. not (le (at l.level j) (at l.level (j - 1)))) l.i l.l
-
-abbrev pub decreases-loop-l : goal.decreases-loop-l
-decreases-loop-l l = l.l
+invariant-loop-l l = SeekingBack (λ j. not (le (at l.level j) (at l.level (j - 1)))) l.i (l.l - 1)

@@ -1,29 +1,22 @@
 -- `stages::region` meets its contract. Assumes nothing.
 use mathlib.Core.Path.{sym, ap₂, ◌∙◌}
+use Rattle.std.proofs.lemmas.Result.{err_from_is_err_and}
 use Rattle.admit.proofs.Admitted.{region_admitted}
+use Rattle.admit.proofs.Numbered.{not_zero}
 use Rattle.entries.specs.Stages.{spanned}
 use Rattle.entries.proofs.Entering.{admitted_is, refused_is}
 use Rattle.entries.proofs.stages.region.Goals as goal
 
-pub returns-then-number-ne0 : goal.returns-then-number-ne0
-unfolding spanned
-returns-then-number-ne0 c =
-    let number = c.region_refusal-number.ensures in
-    c.nowhere.ensures ∙ ap₂ spanned number (refused_is _ _ number c.if-number-ne0.true)
+pub returns-in_err-region_refusal : goal.returns-in_err-region_refusal
+returns-in_err-region_refusal c =
+    let e = c.in_err-region_refusal.ensures in
+    let p = err_from_is_err_and c.from_residual.result c.from_residual.ensures.1 in
+    rw (p.1, p.2) (ap₂ spanned e (refused_is _ _ e (not_zero _)))
 
 pub speech_region-requires : goal.speech_region-requires
-speech_region-requires c = region_admitted _ _ (sym c.region_refusal-number.ensures ∙ c.if-number-ne0.false)
-
-pub returns-in_default : goal.returns-in_default
-unfolding spanned
-returns-in_default c =
-    let number = c.region_refusal-number.ensures in
-    let zero = c.if-number-ne0.false in
-    c.nowhere-in_default.ensures ∙ ap₂ spanned (sym zero ∙ number) (sym c.in_default.is ∙ c.speech_region.ensures ∙ admitted_is _ _ number zero)
+speech_region-requires c = region_admitted _ _ (sym c.in_ok-region_refusal.ensures)
 
 pub returns : goal.returns
-unfolding spanned
 returns c =
-    let number = c.region_refusal-number.ensures in
-    let zero = c.if-number-ne0.false in
-    ap₂ spanned (sym zero ∙ number) (sym c.in-Span.is ∙ c.speech_region.ensures ∙ admitted_is _ _ number zero)
+    let e = c.in_ok-region_refusal.ensures in
+    ap₂ spanned e (c.speech_region.ensures ∙ admitted_is _ _ e)

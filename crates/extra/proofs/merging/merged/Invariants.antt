@@ -1,16 +1,10 @@
--- `extra::merging::merged` meets its contract: the frames below i are merged, by marks that tell the unpitched peaks. Assumes nothing.
-use Prim.Native.Nat.{◌-◌}
-use mathlib.Core.Path.{◌≡◌}
+-- `extra::merging::merged` meets its contract: the anchors below frame i are merged. Assumes nothing.
 use mathlib.Core.List.{◌++◌}
 use lib.ListN.{length}
 use Rattle.nuclei.proofs.Merge.{Merging}
-use Rattle.region.specs.Speech.{marked}
-use Rattle.extra.specs.Merging.{one_syllable, survivor}
+use Rattle.extra.specs.Merging.{mark_at, one_syllable, survivor}
 use Rattle.extra.proofs.Anchoring.{survivor_picks}
 use Rattle.extra.proofs.merging.merged.Given as goal
 
 abbrev pub invariant-loop-i : goal.invariant-loop-i
-invariant-loop-i l = Merging (one_syllable l.s l.p (marked l.found)) (survivor l.s (marked l.found)) (survivor_picks l.s (marked l.found)) (l.nuclei ++ l.peaks) (length l.s) l.kept l.k l.i × (length l.kept ≡ length l.initial.kept)
-
-abbrev pub decreases-loop-i : goal.decreases-loop-i
-decreases-loop-i l = length l.s - l.i
+invariant-loop-i l = Merging (one_syllable l.s l.p (mark_at l.is_peak)) (survivor l.s (mark_at l.is_peak)) (survivor_picks l.s (mark_at l.is_peak)) (l.nuclei ++ l.peaks) (length l.s) l.kept.items l.i

@@ -1,16 +1,15 @@
 -- `extra::merging::survivor` meets its contract. Assumes nothing.
-use borrow.Author.Tests.{eq-eqb, ne_eqb}
 use Rattle.extra.specs.Merging.{survivor}
 use Rattle.extra.proofs.merging.survivor.Goals as goal
 
-pub returns-then-peaks-x-eq1 : goal.returns-then-peaks-x-eq1
+pub returns-then-not-is_peak-prev : goal.returns-then-not-is_peak-prev
 unfolding survivor
-returns-then-peaks-x-eq1 c = rw (eq-eqb _ _ c.if-peaks-prev-eq1.true, eq-eqb _ _ c.if-peaks-x-eq1.true) c.louder.ensures
+returns-then-not-is_peak-prev c = rw c.if-not-is_peak-prev.true
 
-pub returns-then-peaks-prev-eq1 : goal.returns-then-peaks-prev-eq1
+pub returns-then-is_peak-x : goal.returns-then-is_peak-x
 unfolding survivor
-returns-then-peaks-prev-eq1 c = rw (eq-eqb _ _ c.if-peaks-prev-eq1.true, ne_eqb _ _ c.if-peaks-x-eq1.false)
+returns-then-is_peak-x c = rw (c.if-not-is_peak-prev.false, c.if-is_peak-x.true) c.louder.ensures
 
-pub returns : goal.returns
+pub returns-else-is_peak-x : goal.returns-else-is_peak-x
 unfolding survivor
-returns c = rw (ne_eqb _ _ c.if-peaks-prev-eq1.false)
+returns-else-is_peak-x c = rw (c.if-not-is_peak-prev.false, c.if-is_peak-x.false)

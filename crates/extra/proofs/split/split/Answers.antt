@@ -1,4 +1,4 @@
--- `extra::split::split` meets its contract: the best split before frame k is known. Assumes nothing.
+-- `extra::split::split` meets its contract: the best split before frame k is found, by `Cutting`. Assumes nothing.
 use native.Mathlib.Omega.{arith}
 use mathlib.Core.Path.{sym, ◌∙◌}
 use lib.Ieee.{of_bits, round}
@@ -8,23 +8,17 @@ use Rattle.extra.proofs.split.split.Goals.{then-is_better, else-is_better}
 
 pub loop-k-init : goal.loop-k-init
 unfolding of_bits round
-loop-k-init c = (omega arith, cut_start _ _ _)
-
-pub change_at-change-requires : goal.change_at-change-requires
-change_at-change-requires c = (omega (arith, c.loop-k.invariant.1.from), omega arith)
+loop-k-init c = cut_start _ _ _
 
 pub loop-k-preserved : goal.loop-k-preserved
 loop-k-preserved c =
-    let g = c.loop-k.invariant.1 in
-    let h = c.loop-k-test.true in
+    let g = c.loop-k.invariant in
     let e = c.change_at-change.ensures in
-    let f = c.is_better.ensures in (
-      omega arith,
-      elim c.if-is_better.branch [
-        | then-is_better w ↦ rw (w.best-is, w.most-is, e) (cut_yes _ _ _ g h (rw e at (sym f ∙ w.if-is_better.true)))
-        | else-is_better w ↦ rw (w.best-is, w.most-is) (cut_no _ _ _ g h (rw e at (sym f ∙ w.if-is_better.false)))
-      ],
-    )
+    let f = c.is_better.ensures in
+    elim c.if-is_better.branch [
+      | then-is_better w ↦ rw (w.best-is, w.most-is, e) (cut_yes _ _ _ g (omega arith) (rw e at (sym f ∙ w.if-is_better.true)))
+      | else-is_better w ↦ rw (w.best-is, w.most-is) (cut_no _ _ _ g (omega arith) (rw e at (sym f ∙ w.if-is_better.false)))
+    ]
 
 pub returns : goal.returns
-returns c = cut_end _ _ _ c.loop-k.invariant.1 c.loop-k-test.false
+returns c = cut_end _ _ _ c.loop-k.invariant (omega arith)

@@ -7,16 +7,16 @@ use Rattle.extra.proofs.Voiceless.{speech_inside}
 use Rattle.extra.proofs.unpitched.unpitched.Goals as goal
 
 pub vowel_like-requires : goal.vowel_like-requires
-vowel_like-requires c = omega (arith, speech_inside _ _ _ (sym c.level_is_speech.ensures ∙ c.if-level_is_speech.true), c.requires.0, c.requires.1)
+vowel_like-requires c = omega (arith, speech_inside _ _ _ (sym c.is_speech.ensures ∙ c.if-is_speech.true), c.args.r.inside)
 
 pub returns-then-not-pitch_near : goal.returns-then-not-pitch_near
 unfolding unpitched
-returns-then-not-pitch_near c = rw (sym c.level_is_speech.ensures ∙ c.if-level_is_speech.true, sym c.pitch_near.ensures ∙ c.if-not-pitch_near.true) c.vowel_like.ensures
+returns-then-not-pitch_near c = rw (sym c.is_speech.ensures ∙ c.if-is_speech.true, sym c.pitch_near.ensures ∙ c.if-not-pitch_near.true) c.vowel_like.ensures
 
 pub returns-else-not-pitch_near : goal.returns-else-not-pitch_near
 unfolding unpitched
-returns-else-not-pitch_near c = rw (sym c.level_is_speech.ensures ∙ c.if-level_is_speech.true, sym c.pitch_near.ensures ∙ c.if-not-pitch_near.false) (ap not c.if-not-pitch_near.false)
+returns-else-not-pitch_near c = rw (sym c.is_speech.ensures ∙ c.if-is_speech.true, sym c.pitch_near.ensures ∙ c.if-not-pitch_near.false) (ap not c.if-not-pitch_near.false)
 
-pub returns-else-level_is_speech : goal.returns-else-level_is_speech
+pub returns-else-is_speech : goal.returns-else-is_speech
 unfolding unpitched
-returns-else-level_is_speech c = c.if-level_is_speech.false ∙ rw (sym c.level_is_speech.ensures ∙ c.if-level_is_speech.false)
+returns-else-is_speech c = c.if-is_speech.false ∙ rw (sym c.is_speech.ensures ∙ c.if-is_speech.false)

@@ -1,20 +1,45 @@
--- `extra::unpitched::unpitched_peaks` meets its contract: the parts are composed. Assumes nothing.
+-- `extra::unpitched::unpitched_peaks` meets its contract: what is found, with what the peaks that are left give, is the whole. Assumes nothing.
 use native.Mathlib.Omega.{arith}
-use Rattle.lists.proofs.Fill.{listed_take, listed_fits, listed_count}
+use mathlib.Core.Path.{sym, ◌∙◌}
+use Prim.Native.Nat.{◌≤◌}
+use mathlib.Core.List.{append-nil}
+use lib.ListN.{length}
+use Rattle.lists.specs.Results.{filter}
+use Rattle.lists.proofs.Fill.{filter_step, filter_over, filter_le}
+use Rattle.smooth.specs.Extrema.{local_extrema}
 use Rattle.smooth.specs.declared.extrema.Extremum.TheVariants.{Max}
 use Rattle.smooth.proofs.Stretches.{extrema_fit}
-use Rattle.extra.specs.Unpitched.{unpitched_peaks}
+use Rattle.nuclei.proofs.Steps.{pick_room, pick_yes, pick_no}
+use Rattle.extra.specs.Unpitched.{unpitched, unpitched_peaks}
 use Rattle.extra.proofs.unpitched.unpitched_peaks.Goals as goal
+use Rattle.extra.proofs.unpitched.unpitched_peaks.Goals.{then-unpitched, else-unpitched}
 
-pub slice_bounds-peaks-end : goal.slice_bounds-peaks-end
-slice_bounds-peaks-end c = listed_fits c.local_extrema-m.ensures
+pub push-requires : goal.push-requires
+push-requires c =
+    let b = c.args.r.bounds in
+    let s = c.args.r.level.now in
+    let t = unpitched s c.args.pitch.now c.args.son.now b in
+    let peaks = local_extrema s b.start b.end Max in
+    let e = c.as_slice-x-items.ensures.value ∙ c.local_extrema-peaks.ensures in
+    let few : length (filter t peaks) ≤ 2048 = omega (arith, filter_le t peaks, extrema_fit s b.start b.end Max) in
+    (omega arith, pick_room _ _ _ _ (rw (filter_step t peaks c.loop-x.x-index 0 (rw e at c.loop-x-test.true)) at c.loop-x.invariant) (sym (rw e at c.unpitched.ensures) ∙ c.if-unpitched.true) few)
 
-pub slice_bounds-those_unpitched-end : goal.slice_bounds-those_unpitched-end
-slice_bounds-those_unpitched-end c = listed_count c.local_extrema-m.ensures
-
-pub those_unpitched-requires : goal.those_unpitched-requires
-those_unpitched-requires c = (c.requires.1, c.requires.2, rw (listed_take c.local_extrema-m.ensures) (omega (arith, extrema_fit c.args.s.now c.args.b.start c.args.b.end Max, c.requires.3)))
+pub loop-x-preserved : goal.loop-x-preserved
+loop-x-preserved c =
+    let b = c.args.r.bounds in
+    let s = c.args.r.level.now in
+    let t = unpitched s c.args.pitch.now c.args.son.now b in
+    let peaks = local_extrema s b.start b.end Max in
+    let e = c.as_slice-x-items.ensures.value ∙ c.local_extrema-peaks.ensures in
+    let g = rw (filter_step t peaks c.loop-x.x-index 0 (rw e at c.loop-x-test.true)) at c.loop-x.invariant in
+    let u = sym (rw e at c.unpitched.ensures) in
+    elim c.if-unpitched.branch [
+      | then-unpitched w ↦ rw (w.found-is, w.push.ensures.items, e) (pick_yes _ _ _ _ g (u ∙ w.if-unpitched.true))
+      | else-unpitched w ↦ rw w.found-is (pick_no _ _ _ _ g (u ∙ w.if-unpitched.false))
+    ]
 
 pub returns : goal.returns
 unfolding unpitched_peaks
-returns c = rw (listed_take c.local_extrema-m.ensures) at c.those_unpitched.ensures
+returns c =
+    let e = c.as_slice-x-items.ensures.value ∙ c.local_extrema-peaks.ensures in
+    sym (append-nil _) ∙ rw (filter_over _ _ _ (rw e at c.loop-x-test.false)) at c.loop-x.invariant

@@ -1,11 +1,7 @@
 -- `extra::unpitched::vowel_like` meets its contract. Assumes nothing.
-use native.Mathlib.Omega.{arith}
 use lib.Ieee.{of_bits}
 use Rattle.extra.specs.Unpitched.{vowel_like}
 use Rattle.extra.proofs.unpitched.vowel_like.Goals as goal
-
-pub mean-requires : goal.mean-requires
-mean-requires c = (omega arith, omega arith, omega arith)
 
 pub returns : goal.returns
 unfolding vowel_like of_bits

@@ -1,12 +1,8 @@
 -- `first_peak` meets its contract. The loop's invariant: the first from k on is the first of all. Assumes nothing.
-use Prim.Native.Nat.{◌-◌, ◌≤◌, ◌<◌}
 use mathlib.Core.Path.{◌≡◌}
 use Rattle.nsdf.specs.Period.{first_peak}
 use Rattle.nsdf.proofs.Peaks.{first_from}
 use Rattle.nsdf.proofs.period.first_peak.Given as goal
 
 abbrev pub invariant-loop-k : goal.invariant-loop-k
-invariant-loop-k l = (0 < l.k) × (l.k ≤ 199) × (first_from l.d l.least l.k ≡ first_peak l.d l.least)
-
-abbrev pub decreases-loop-k : goal.decreases-loop-k
-decreases-loop-k l = 199 - l.k
+invariant-loop-k l = first_from l.d l.least l.k ≡ first_peak l.d l.least

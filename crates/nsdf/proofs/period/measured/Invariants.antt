@@ -1,10 +1,6 @@
 -- `measured` meets its contract. The loop's invariant: the first k lags are measured. Assumes nothing.
-use Prim.Native.Nat.{◌-◌}
 use Rattle.nsdf.proofs.Peaks.{Measuring}
 use Rattle.nsdf.proofs.period.measured.Given as goal
 
 abbrev pub invariant-loop-k : goal.invariant-loop-k
 invariant-loop-k l = Measuring l.window l.initial.d l.d l.k
-
-abbrev pub decreases-loop-k : goal.decreases-loop-k
-decreases-loop-k l = 200 - l.k

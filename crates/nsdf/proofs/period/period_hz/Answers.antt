@@ -1,5 +1,5 @@
 -- `period_hz` meets its contract. Assumes nothing.
-use mathlib.Core.Path.{ap, ◌∙◌}
+use Rattle.std.proofs.Common.{arith, ap, ◌∙◌}
 use mathlib.Core.List.{List}
 use lib.IntN.{ℤ}
 use Rattle.nsdf.specs.Period.{measured, estimated, period_hz}
@@ -11,4 +11,4 @@ unfolding period_hz
 returns c =
     c.estimated.ensures
     ∙ ap estimated c.measured-d.ensures
-    ∙ ap (λ (w : List ℤ). estimated (measured w)) (window_part c.args.samples.now c.args.centre _ _ c.start_of-start.ensures c.end_of-end.ensures)
+    ∙ ap (λ (w : List ℤ). estimated (measured w)) (window_part c.args.samples.now c.args.centre _ _ (omega arith) (omega arith))

@@ -1,28 +1,12 @@
 -- `normalised` meets its contract: both numbers are exact as f64, and their quotient is the fraction rounded once. Assumes nothing.
-use borrow.Author.Tests.{eq-eqb, ne_eqb}
+use borrow.Author.Tests.{ne_eqb}
 use lib.IntN.{pos, ◌*ℤ◌}
-use lib.Ieee.{binary64, of_bits}
+use lib.Ieee.{binary64}
 use mir.Syntax.{w64}
 use mir.ValLaws.{to_z-of_z}
-use Rattle.floats.proofs.Quotient.{in_float_lem, div_ratio}
+use Rattle.floats.proofs.Quotient.{div_ratio}
 use Rattle.nsdf.proofs.Whole.{twice_small, twice_fits, not_zero}
 use Rattle.nsdf.proofs.periodicity.normalised.Goals as goal
-
-pub returns-then-power-eq0 : goal.returns-then-power-eq0
-unfolding of_bits
-returns-then-power-eq0 c = rw (eq-eqb _ 0 c.if-power-eq0.true)
-
-pub overflow_mul-result : goal.overflow_mul-result
-overflow_mul-result c = rw (to_z-of_z w64 c.args.cross c.ranges.cross) (twice_fits c.args.cross c.args.power c.requires.cross_bound c.requires.power_bound)
-
-pub int_to_float-result : goal.int_to_float-result
-int_to_float-result c =
-    let fit = twice_fits c.args.cross c.args.power c.requires.cross_bound c.requires.power_bound in
-    rw (to_z-of_z w64 c.args.cross c.ranges.cross, to_z-of_z w64 _ fit)
-    (in_float_lem binary64 (pos 2 *ℤ c.args.cross) (twice_small c.args.cross c.args.power c.requires.cross_bound c.requires.power_bound))
-
-pub int_to_float-result-2 : goal.int_to_float-result-2
-int_to_float-result-2 c = in_float_lem binary64 _ c.requires.power_bound
 
 pub returns : goal.returns
 returns c =

@@ -1,10 +1,6 @@
 -- `cross` meets its contract. The loop's invariant: the products added so far, with those of the pairs still to come, are the whole sum. Assumes nothing.
-use Prim.Native.Nat.{◌-◌}
 use Rattle.nsdf.proofs.Summing.{Crossed}
 use Rattle.nsdf.proofs.sums.cross.Given as goal
 
 abbrev pub invariant-loop-i : goal.invariant-loop-i
-invariant-loop-i l = Crossed l.window l.lag l.pairs l.sum l.i
-
-abbrev pub decreases-loop-i : goal.decreases-loop-i
-decreases-loop-i l = l.pairs - l.i
+invariant-loop-i l = Crossed l.window l.after l.sum l.i

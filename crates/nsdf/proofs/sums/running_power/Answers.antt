@@ -5,8 +5,8 @@ use Rattle.nsdf.proofs.Summing.{power_end}
 use Rattle.nsdf.proofs.Differences.{not_less, power_is, power_fits}
 use Rattle.nsdf.proofs.sums.running_power.Goals as goal
 
-pub returns-then-n-lag : goal.returns-then-n-lag
-returns-then-n-lag c = record { value = sym (power_end c.args.window.now c.args.window.now c.args.lag c.if-n-lag.true); upper_bound = omega arith }
+pub returns-then-n-lag-clause-value : goal.returns-then-n-lag-clause-value
+returns-then-n-lag-clause-value c = sym (power_end c.args.window.now c.args.window.now c.args.lag c.if-n-lag.true)
 
 pub overflow_sub-result-2 : goal.overflow_sub-result-2
 overflow_sub-result-2 c = not_less c.args.window.now c.args.sq.now c.args.lag c.requires.running c.if-n-lag.false
@@ -14,5 +14,8 @@ overflow_sub-result-2 c = not_less c.args.window.now c.args.sq.now c.args.lag c.
 pub overflow_add-result : goal.overflow_add-result
 overflow_add-result c = omega (arith, power_fits c.args.window.now c.args.sq.now c.args.lag c.requires.running c.if-n-lag.false)
 
-pub returns : goal.returns
-returns c = record { value = power_is c.args.window.now c.args.sq.now c.args.lag c.requires.running c.if-n-lag.false; upper_bound = power_fits c.args.window.now c.args.sq.now c.args.lag c.requires.running c.if-n-lag.false }
+pub returns-clause-value : goal.returns-clause-value
+returns-clause-value c = power_is c.args.window.now c.args.sq.now c.args.lag c.requires.running c.if-n-lag.false
+
+pub returns-clause-upper_bound : goal.returns-clause-upper_bound
+returns-clause-upper_bound c = power_fits c.args.window.now c.args.sq.now c.args.lag c.requires.running c.if-n-lag.false

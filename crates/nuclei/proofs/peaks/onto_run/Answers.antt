@@ -7,10 +7,10 @@ pub returns-in_default : goal.returns-in_default
 unfolding onto_run
 returns-in_default c = rw (sym c.run_of.ensures ∙ c.in_default.is)
 
-pub returns-then-level_is_speech : goal.returns-then-level_is_speech
+pub returns-then-is_speech : goal.returns-then-is_speech
 unfolding onto_run
-returns-then-level_is_speech c = rw (sym c.run_of.ensures ∙ c.in-At.is, ← c.clamp-on.ensures, sym c.level_is_speech.ensures ∙ c.if-level_is_speech.true)
+returns-then-is_speech c = rw (sym c.run_of.ensures ∙ c.in-Some.is, ← c.clamp-on.ensures, sym c.is_speech.ensures ∙ c.if-is_speech.true)
 
-pub returns-else-level_is_speech : goal.returns-else-level_is_speech
+pub returns-else-is_speech : goal.returns-else-is_speech
 unfolding onto_run
-returns-else-level_is_speech c = rw (sym c.run_of.ensures ∙ c.in-At.is, ← c.clamp-on.ensures, sym c.level_is_speech.ensures ∙ c.if-level_is_speech.false)
+returns-else-is_speech c = rw (sym c.run_of.ensures ∙ c.in-Some.is, ← c.clamp-on.ensures, sym c.is_speech.ensures ∙ c.if-is_speech.false)

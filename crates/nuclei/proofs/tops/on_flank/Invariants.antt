@@ -1,14 +1,10 @@
 -- `nuclei::tops::on_flank` meets its contract: what is left of the frames decides. Assumes nothing.
-use Prim.Native.Nat.{ℕ, ◌-◌, ◌≤◌}
-use lib.ListN.{length}
+use Prim.Native.Nat.{ℕ}
 use lib.Ieee.{lt}
 use Rattle.lists.specs.Frames.{at}
-use Rattle.nuclei.specs.Tops.{on_flank}
 use Rattle.lists.proofs.Walks.{Looking}
+use Rattle.nuclei.specs.Tops.{on_flank}
 use Rattle.nuclei.proofs.tops.on_flank.Given as goal
 
 abbrev pub invariant-loop-i : goal.invariant-loop-i
-invariant-loop-i l = Looking (λ (j : ℕ). lt l.most (at l.s j)) l.end l.i (on_flank l.s l.dip l.at) × (l.end ≤ length l.s)
-
-abbrev pub decreases-loop-i : goal.decreases-loop-i
-decreases-loop-i l = l.end - l.i
+invariant-loop-i l = Looking (λ (j : ℕ). lt l.most (at l.s j)) l.i-end l.i (on_flank l.s l.dip l.at)

@@ -1,23 +1,26 @@
--- `nuclei::tops::runs_held` meets its contract: what the frames from i on give is to come. Assumes nothing.
+-- `nuclei::tops::runs_held` meets its contract: what is held, with what the frames that are left give, is the whole. Assumes nothing.
 use native.Mathlib.Omega.{arith}
-use Rattle.lists.proofs.Fill.{fill_start, fill_length, fill_end, fill_pushed, fill_fits_if}
-use Rattle.runs.specs.Runs.{spans}
-use Rattle.nuclei.proofs.Steps.{held_few, held_step, held_over}
+use mathlib.Core.Path.{sym, ap, ◌∙◌}
+use mathlib.Core.List.{append-nil}
+use Rattle.std.specs.Prelude.{is_some}
+use Rattle.runs.proofs.Pushing.{push_on}
+use Rattle.nuclei.proofs.Steps.{pick_room, held_few, held_step, held_over}
 use Rattle.nuclei.proofs.tops.runs_held.Goals as goal
+use Rattle.nuclei.proofs.tops.runs_held.Goals.{in-Some, in_default}
 
-pub loop-i-init : goal.loop-i-init
-loop-i-init c =
-    let a = c.args in
-    (omega arith, fill_start _ _ (omega (arith, held_few (spans a.first.now a.last.now) a.frames.now)))
+pub push-requires : goal.push-requires
+push-requires g c =
+    let s = rw (held_step _ _ _ c.loop-x-test.true) at c.loop-x.invariant in
+    let few = held_few c.args.runs.now c.args.frames.now in
+    (omega arith, pick_room _ _ _ _ s (ap is_some (sym c.run_of.ensures ∙ c.in-Some.is)) (omega arith))
 
-pub push_number-n-requires : goal.push_number-n-requires
-push_number-n-requires c = rw c.run_of.ensures (λ e. fill_fits_if _ _ _ e (rw (held_step _ _ _ c.loop-i-test.true) at c.loop-i.invariant.1))
-
-pub loop-i-preserved : goal.loop-i-preserved
-loop-i-preserved c = (omega arith, fill_pushed _ _ (rw (held_step _ _ _ c.loop-i-test.true) at c.loop-i.invariant.1) (rw c.run_of.ensures at c.push_number-n.ensures))
-
-pub shape_of-out : goal.shape_of-out
-shape_of-out c = fill_length c.loop-i.invariant.1
+pub loop-x-preserved : goal.loop-x-preserved
+loop-x-preserved g c =
+    let s = rw (held_step _ _ _ c.loop-x-test.true, ← c.run_of.ensures) at c.loop-x.invariant in
+    elim c.match-run_of.branch [
+      | in-Some w ↦ rw (w.held-is, w.push.ensures.items) (push_on _ _ _ (rw w.in-Some.is at s))
+      | in_default w ↦ rw w.held-is (rw w.in_default.is at s)
+    ]
 
 pub returns : goal.returns
-returns c = fill_end (rw (held_over _ _ _ c.loop-i-test.false) at c.loop-i.invariant.1)
+returns g c = sym (append-nil _) ∙ rw (held_over _ _ _ c.loop-x-test.false) at c.loop-x.invariant

@@ -1,13 +1,9 @@
--- `nuclei::tops::runs_held` meets its contract: what the frames from i on give is to come. Assumes nothing.
-use Prim.Native.Nat.{◌-◌, ◌≤◌}
-use lib.ListN.{length, drop}
-use Rattle.lists.proofs.Fill.{Filling}
-use Rattle.runs.specs.Runs.{spans}
+-- `nuclei::tops::runs_held` meets its contract: what is held, with what the frames that are left give, is the whole. Assumes nothing.
+use mathlib.Core.Path.{◌≡◌}
+use mathlib.Core.List.{◌++◌}
+use lib.ListN.{drop}
 use Rattle.nuclei.specs.Tops.{runs_held}
 use Rattle.nuclei.proofs.tops.runs_held.Given as goal
 
-abbrev pub invariant-loop-i : goal.invariant-loop-i
-invariant-loop-i l = (l.i ≤ length l.frames) × Filling (runs_held (spans l.first l.last) l.frames) (runs_held (spans l.first l.last) (drop l.i l.frames)) l.initial.out l.out l.n
-
-abbrev pub decreases-loop-i : goal.decreases-loop-i
-decreases-loop-i l = length l.frames - l.i
+abbrev pub invariant-loop-x : goal.invariant-loop-x
+invariant-loop-x g l = l.held.items ++ runs_held l.runs (drop l.x-index l.frames) ≡ runs_held l.runs l.frames

@@ -4,10 +4,10 @@ use mathlib.Core.Bool.{not}
 use Rattle.nuclei.specs.Tops.{stands_alone}
 use Rattle.nuclei.proofs.tops.stands_alone.Goals as goal
 
-pub returns-then-level_is_speech : goal.returns-then-level_is_speech
+pub returns-then-is_speech : goal.returns-then-is_speech
 unfolding stands_alone
-returns-then-level_is_speech c = rw (sym c.level_is_speech.ensures ∙ c.if-level_is_speech.true) (ap not c.on_flank.ensures)
+returns-then-is_speech c = rw (sym c.is_speech.ensures ∙ c.if-is_speech.true) (ap not c.on_flank.ensures)
 
-pub returns-else-level_is_speech : goal.returns-else-level_is_speech
+pub returns-else-is_speech : goal.returns-else-is_speech
 unfolding stands_alone
-returns-else-level_is_speech c = c.if-level_is_speech.false ∙ rw (sym c.level_is_speech.ensures ∙ c.if-level_is_speech.false)
+returns-else-is_speech c = c.if-is_speech.false ∙ rw (sym c.is_speech.ensures ∙ c.if-is_speech.false)

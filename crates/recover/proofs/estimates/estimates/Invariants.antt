@@ -1,12 +1,7 @@
 -- `estimates::estimates` meets its contract: the list is filled frame by frame. Assumes nothing.
-use Prim.Native.Nat.{◌-◌}
-use lib.ListN.{length}
 use Rattle.nsdf.specs.Period.{period_hz}
 use Rattle.recover.proofs.Trying.{Trying}
 use Rattle.recover.proofs.estimates.estimates.Given as goal
 
 abbrev pub invariant-loop-i : goal.invariant-loop-i
 invariant-loop-i l = Trying (period_hz l.samples) l.pitch l.speech l.vowel l.initial.out l.out l.i
-
-abbrev pub decreases-loop-i : goal.decreases-loop-i
-decreases-loop-i l = length l.pitch - l.i

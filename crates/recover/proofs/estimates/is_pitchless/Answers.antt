@@ -1,9 +1,11 @@
 -- `estimates::is_pitchless` meets its contract. Assumes nothing.
-use Rattle.recover.proofs.Reading.{pitchless_in, pitchless_out}
+use borrow.Author.Tests.{le-leb}
+use lib.Ieee.{eq}
+use lib.ListN.{get_or-eq_default}
+use Rattle.floats.specs.Plain.{zero_f}
 use Rattle.recover.proofs.estimates.is_pitchless.Goals as goal
 
-pub returns-then-i-pitch : goal.returns-then-i-pitch
-returns-then-i-pitch c = pitchless_in c.args.pitch.now c.args.i c.if-i-pitch.true
-
-pub returns : goal.returns
-returns c = pitchless_out c.args.pitch.now c.args.i c.if-i-pitch.false
+-- past the end of the track +0.0 is read
+pub returns-then-pitch-i : goal.returns-then-pitch-i
+unfolding eq
+returns-then-pitch-i c = rw (le-leb _ _ c.if-pitch-i.true, get_or-eq_default c.args.pitch.now zero_f c.if-pitch-i.true)

@@ -9,8 +9,8 @@ returns-in_default c = rw (sym c.run_of.ensures ∙ c.in_default.is)
 
 pub returns-in_default-run_of : goal.returns-in_default-run_of
 unfolding separate
-returns-in_default-run_of c = rw (sym c.run_of.ensures ∙ c.in-At.is, sym c.run_of-2.ensures ∙ c.in_default-run_of.is)
+returns-in_default-run_of c = rw (sym c.run_of.ensures ∙ c.in-Some.is, sym c.run_of-2.ensures ∙ c.in_default-run_of.is)
 
 pub returns : goal.returns
 unfolding separate
-returns c = rw (sym c.run_of.ensures ∙ c.in-At.is, sym c.run_of-2.ensures ∙ c.in-At-run_of.is)
+returns c = rw (sym c.run_of.ensures ∙ c.in-Some.is, sym c.run_of-2.ensures ∙ c.in-Some-run_of.is)

@@ -1,35 +1,42 @@
--- `runs::syllables::syllables_of` meets its contract: the syllable runs are written one after the other, by `Cutting`. Assumes nothing.
+-- `runs::syllables::syllables_of` meets its contract: the syllable runs come one after the other, by `Joining`. Assumes nothing.
 use native.Mathlib.Omega.{arith}
-use Rattle.runs.proofs.Spans.{spans_lengths}
-use Rattle.runs.proofs.Syllabic.{cutting_start, cutting_room, cutting_on, cutting_end}
+use mathlib.Core.Path.{◌≡◌, refl, sym, ◌∙◌}
+use mathlib.Core.List.{List, [], ◌∷◌}
+use lib.ListN.{length, drop_of_length-le}
+use Rattle.lists.specs.Grouped.{grouped}
+use Rattle.lists.proofs.Fill.{drop_step}
+use Rattle.runs.specs.declared.voiced.Span.{Span}
+use Rattle.runs.specs.Syllables.{syllables_of}
+use Rattle.runs.proofs.Syllabic.{joining_start, joining_on, joining_room, joining_cut, joining_end, joining_end_room}
 use Rattle.runs.proofs.syllables.syllables_of.Goals as goal
+use Rattle.runs.proofs.syllables.syllables_of.Goals.{then-breaks_from, else-breaks_from}
 
-pub loop-k-init : goal.loop-k-init
-loop-k-init c = cutting_start _ _ _ _ _ (omega arith) (omega arith)
+pub returns-in_default : goal.returns-in_default
+unfolding syllables_of grouped
+returns-in_default g c = c.new-syllables.ensures ∙ none c.args.runs.now c.in_default.ensures.cases
+  where
+    none : (rs : List Span) → length rs ≡ 0 → [] ≡ syllables_of c.args.pitch.now rs
+    none [] e = refl
+    none (r ∷ rs) e = absurd (omega arith)
 
-pub offset_bounds-heads-n : goal.offset_bounds-heads-n
-offset_bounds-heads-n c = omega (arith, cutting_room _ _ _ _ _ _ c.syllable_end-end.ensures c.loop-k.invariant)
+pub loop-run-init : goal.loop-run-init
+loop-run-init g c = rw (c.new-syllables.ensures, c.in-Some.ensures.cases.0) (joining_start _ _ _ (rw c.in-Some.ensures.cases.0 at c.requires.0))
 
-pub bounds-heads-n : goal.bounds-heads-n
-bounds-heads-n c = (cutting_room _ _ _ _ _ _ c.syllable_end-end.ensures c.loop-k.invariant).0
+pub push-requires : goal.push-requires
+push-requires g c =
+    let next = drop_step c.in-Some.rest.now c.loop-run.run-index (record { first = 0; last = 0 }) c.loop-run-test.true in
+    (omega arith, omega (arith, joining_room _ _ next c.loop-run.invariant (sym c.breaks_from.ensures ∙ c.if-breaks_from.true)))
 
-pub offset_bounds-tails-n : goal.offset_bounds-tails-n
-offset_bounds-tails-n c = omega (arith, cutting_room _ _ _ _ _ _ c.syllable_end-end.ensures c.loop-k.invariant)
+pub loop-run-preserved : goal.loop-run-preserved
+loop-run-preserved g c =
+    let next = drop_step c.in-Some.rest.now c.loop-run.run-index (record { first = 0; last = 0 }) c.loop-run-test.true in
+    elim c.if-breaks_from.branch [
+      | then-breaks_from w ↦ rw (w.syllables-is, w.group-is, w.push.ensures.items) (joining_cut _ _ next c.loop-run.invariant (sym c.breaks_from.ensures ∙ w.if-breaks_from.true))
+      | else-breaks_from w ↦ rw (w.syllables-is, w.group-is) (joining_on _ _ next c.loop-run.invariant (sym c.breaks_from.ensures ∙ w.if-breaks_from.false))
+    ]
 
-pub bounds-tails-n : goal.bounds-tails-n
-bounds-tails-n c = (cutting_room _ _ _ _ _ _ c.syllable_end-end.ensures c.loop-k.invariant).1
-
-pub overflow_add-n : goal.overflow_add-n
-overflow_add-n c = omega (arith, cutting_room _ _ _ _ _ _ c.syllable_end-end.ensures c.loop-k.invariant)
-
-pub loop-k-preserved : goal.loop-k-preserved
-loop-k-preserved c = cutting_on _ _ _ _ _ _ c.syllable_end-end.ensures c.loop-k.invariant
-
-pub shape_of-heads : goal.shape_of-heads
-shape_of-heads c = (spans_lengths c.loop-k.invariant.ends).0
-
-pub shape_of-tails : goal.shape_of-tails
-shape_of-tails c = (spans_lengths c.loop-k.invariant.ends).1
+pub push-requires-2 : goal.push-requires-2
+push-requires-2 g c = (omega arith, omega (arith, joining_end_room _ (drop_of_length-le c.in-Some.rest.now c.loop-run-test.false) c.loop-run.invariant))
 
 pub returns : goal.returns
-returns c = cutting_end _ _ _ _ _ c.loop-k-test.false c.loop-k.invariant
+returns g c = c.push-2.ensures.items ∙ joining_end _ (drop_of_length-le c.in-Some.rest.now c.loop-run-test.false) c.loop-run.invariant

@@ -1,11 +1,7 @@
--- `runs::syllables::syllables_of` meets its contract: the syllable runs are written one after the other, by `Cutting`. Assumes nothing.
-use Prim.Native.Nat.{◌-◌}
-use lib.ListN.{length}
-use Rattle.runs.proofs.Syllabic.{Cutting}
+-- `runs::syllables::syllables_of` meets its contract: the syllable runs come one after the other, by `Joining`. Assumes nothing.
+use lib.ListN.{drop}
+use Rattle.runs.proofs.Syllabic.{Joining}
 use Rattle.runs.proofs.syllables.syllables_of.Given as goal
 
-abbrev pub invariant-loop-k : goal.invariant-loop-k
-invariant-loop-k l = Cutting l.pitch l.first l.last l.initial.heads l.initial.tails l.heads l.tails l.n l.k
-
-abbrev pub decreases-loop-k : goal.decreases-loop-k
-decreases-loop-k l = length l.first - l.k
+abbrev pub invariant-loop-run : goal.invariant-loop-run
+invariant-loop-run g l = Joining l.pitch l.runs (drop l.run-index l.rest) l.syllables.items l.group

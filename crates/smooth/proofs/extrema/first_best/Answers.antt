@@ -1,14 +1,11 @@
 -- `smooth::extrema::first_best` meets its contract. Up to frame i every frame is beaten by the furthest value. Assumes nothing.
 use native.Mathlib.Omega.{arith}
-use mathlib.Core.Path.{ap, ◌∙◌}
+use mathlib.Core.Path.{◌≡◌, ap, ◌∙◌}
 use mathlib.Core.Bool.{not}
 use Rattle.smooth.proofs.Best.{unbeaten_test}
-use Rattle.lists.proofs.Walks.{seek_start, seek_on, seek_stop, seek_end}
+use Rattle.lists.proofs.Walks.{seek_on, seek_stop, seek_end}
 use Rattle.smooth.specs.Extrema.{first_best}
 use Rattle.smooth.proofs.extrema.first_best.Goals as goal
-
-pub loop-i-init : goal.loop-i-init
-loop-i-init c = seek_start _ _ _ (omega arith)
 
 pub returns-then-not-is_beyond : goal.returns-then-not-is_beyond
 unfolding first_best
@@ -26,4 +23,5 @@ pub returns : goal.returns
 unfolding first_best
 returns c =
     let l = c.loop-i in
-    (seek_end _ _ _ l.invariant c.loop-i-test.false, (l.invariant.low, l.invariant.high))
+    let e : c.args.b ≡ l.i = omega arith in
+    (e ∙ seek_end _ _ _ l.invariant c.loop-i-test.false, (omega arith, omega arith))

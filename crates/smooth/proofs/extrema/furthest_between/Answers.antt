@@ -1,23 +1,12 @@
--- `smooth::extrema::furthest_between` meets its contract. Assumes nothing.
-use native.Mathlib.Omega.{arith}
-use mathlib.Core.Path.{sym, ◌∙◌}
-use borrow.Author.Rules.{rules}
-use Rattle.smooth.proofs.Best.{furthest_step, furthest_over}
+-- `smooth::extrema::furthest_between` meets its contract. The furthest so far, with the frames that are left, gives the furthest of the part. Assumes nothing.
+use Rattle.std.proofs.Common.{◌+◌}
+use lib.ListN.{drop_of_length-le}
+use Rattle.lists.proofs.Parts.{drop_take}
 use Rattle.smooth.specs.Extrema.{furthest}
 use Rattle.smooth.proofs.extrema.furthest_between.Goals as goal
 
-pub loop-i-init : goal.loop-i-init
-unfolding furthest
-loop-i-init c = (search rules, search rules, rw c.unreached-m.ensures)
-
-pub loop-i-preserved : goal.loop-i-preserved
-loop-i-preserved c =
-    let a = c.args in
-    let l = c.loop-i in
-    (search rules, search rules, rw c.further-m.ensures (sym (furthest_step a.kind a.s.now l.m l.i a.b c.loop-i-test.true (omega arith)) ∙ l.invariant.2))
-
 pub returns : goal.returns
+unfolding furthest
 returns c =
     let a = c.args in
-    let l = c.loop-i in
-    sym (furthest_over a.kind a.s.now l.m l.i a.b (omega arith)) ∙ l.invariant.2
+    rw (drop_take a.a (a.b + 1) a.s.now) (rw (drop_of_length-le _ c.loop-x-test.false) at c.loop-x.invariant)

@@ -1,13 +1,8 @@
--- `smooth::extrema::furthest_between` meets its contract. Assumes nothing.
-use Prim.Native.Nat.{◌+◌, ◌-◌, ◌≤◌}
-use mathlib.Core.Path.{◌≡◌}
-use lib.Seq.{slice}
-use Rattle.lists.specs.By.{best_of}
-use Rattle.smooth.specs.Extrema.{beyond, furthest}
+-- `smooth::extrema::furthest_between` meets its contract. The furthest so far, with the frames that are left, gives the furthest of the part. Assumes nothing.
+use Rattle.std.proofs.Common.{◌≡◌, drop}
+use mathlib.Core.List.{foldl}
+use Rattle.smooth.specs.Extrema.{further, unreached}
 use Rattle.smooth.proofs.extrema.furthest_between.Given as goal
 
-abbrev pub invariant-loop-i : goal.invariant-loop-i
-invariant-loop-i l = (l.a ≤ l.i) × (l.i ≤ l.b + 1) × (best_of (beyond l.kind) l.m (slice l.i (l.b + 1) l.s) ≡ furthest l.kind (slice l.a (l.b + 1) l.s))
-
-abbrev pub decreases-loop-i : goal.decreases-loop-i
-decreases-loop-i l = l.b + 1 - l.i
+abbrev pub invariant-loop-x : goal.invariant-loop-x
+invariant-loop-x l = foldl (further l.kind) l.m (drop l.x-index l.part) ≡ foldl (further l.kind) (unreached l.kind) l.part

@@ -1,43 +1,24 @@
--- `smooth::extrema::local_extrema` meets its contract. The flat stretch i to j goes on, and the extrema before it are written. Assumes nothing.
-use Prim.Native.Nat.{◌+◌, ◌<◌}
+-- `smooth::extrema::local_extrema` meets its contract. The flat stretch i to j goes on, and the extrema before it are found. Assumes nothing.
 use native.Mathlib.Omega.{arith}
-use lib.ListN.{length}
-use Rattle.lists.proofs.Fill.{fill_length}
-use Rattle.smooth.proofs.Stretches.{scan_start, next_within, scan_on, scan_cut, scan_room, scan_end}
-use borrow.Author.Rules.{rules}
+use Rattle.smooth.proofs.Stretches.{scan_start, scan_room, scan_found, scan_none, scan_on, scan_end}
 use Rattle.smooth.proofs.extrema.local_extrema.Goals as goal
-use Rattle.smooth.proofs.extrema.local_extrema.Goals.{Else-ends_at}
+use Rattle.smooth.proofs.extrema.local_extrema.Goals.{then-is_offered, else-is_offered}
 
 pub loop-j-init : goal.loop-j-init
-loop-j-init c = scan_start _ _ _ _ _ c.requires.0
+loop-j-init c = rw c.new-found.ensures (scan_start _ _ _ _)
 
-pub offer-n-requires : goal.offer-n-requires
-offer-n-requires c =
-    let g = c.loop-j.invariant in
-    let h = c.loop-j-test.true in
-    ((g.stretch h).alike.low, h, search rules, scan_room _ _ _ _ _ g h c.ends_at.ensures c.if-ends_at.true)
+pub push-requires : goal.push-requires
+push-requires c = (omega arith, omega (arith, scan_room _ _ _ _ c.loop-j.invariant c.loop-j-test.true c.ends_at.ensures c.if-ends_at.true c.is_offered.ensures c.if-is_offered.true))
 
 pub loop-j-preserved-then-ends_at : goal.loop-j-preserved-then-ends_at
-loop-j-preserved-then-ends_at c = scan_cut _ _ _ _ _ c.loop-j.invariant c.loop-j-test.true c.ends_at.ensures c.if-ends_at.true c.offer-n.ensures
-
--- there is a frame after j where the stretch goes on
-next : (c : Else-ends_at) → c.loop-j.j + 1 < length c.args.s.now
-next c = next_within _ _ _ _ _ c.loop-j.invariant c.loop-j-test.true c.ends_at.ensures c.if-ends_at.false
-
-pub overflow_sub-s : goal.overflow_sub-s
-overflow_sub-s c = omega (arith, next (goal.at.overflow_sub-s c).Else-ends_at)
-
-pub flat_last-j-requires : goal.flat_last-j-requires
-flat_last-j-requires c = (omega (arith, next (goal.at.flat_last-j-requires c).Else-ends_at), omega (arith, next (goal.at.flat_last-j-requires c).Else-ends_at))
-
-pub loop-j-smaller : goal.loop-j-smaller
-loop-j-smaller c = omega (arith, c.flat_last-j.ensures.1.0, c.loop-j-test.true)
+loop-j-preserved-then-ends_at c = elim c.if-is_offered.branch [
+  | then-is_offered w ↦
+      rw w.found-is (scan_found _ _ _ _ c.loop-j.invariant c.loop-j-test.true c.ends_at.ensures c.if-ends_at.true c.is_offered.ensures w.if-is_offered.true w.middle.ensures w.push.ensures.items)
+  | else-is_offered w ↦ rw w.found-is (scan_none _ _ _ _ c.loop-j.invariant c.loop-j-test.true c.ends_at.ensures c.if-ends_at.true c.is_offered.ensures w.if-is_offered.false)
+]
 
 pub loop-j-preserved : goal.loop-j-preserved
-loop-j-preserved c = scan_on _ _ _ _ _ c.loop-j.invariant c.loop-j-test.true c.ends_at.ensures c.if-ends_at.false c.flat_last-j.result c.flat_last-j.ensures
-
-pub shape_of-out : goal.shape_of-out
-shape_of-out c = fill_length c.loop-j.invariant.todo
+loop-j-preserved c = scan_on _ _ _ _ c.loop-j.invariant c.loop-j-test.true c.ends_at.ensures c.if-ends_at.false c.flat_last-j.result c.flat_last-j.ensures
 
 pub returns : goal.returns
-returns c = scan_end _ _ _ _ _ c.loop-j.invariant c.loop-j-test.false
+returns c = scan_end _ _ _ _ c.loop-j.invariant c.loop-j-test.false

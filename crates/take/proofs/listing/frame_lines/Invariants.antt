@@ -1,12 +1,9 @@
--- `take::listing::frame_lines` meets its contract. The loop's invariant: the lines of the first i frames are put. Assumes nothing.
-use Prim.Native.Nat.{◌-◌, ◌≤◌}
-use lib.ListN.{length, drop}
+-- `take::listing::frame_lines` meets its contract. The loop's invariant: the page and the lines that are left make up the whole. Assumes nothing.
+use mathlib.Core.Path.{◌≡◌}
+use mathlib.Core.List.{◌++◌}
+use lib.ListN.{drop}
 use Rattle.take.specs.Listing.{frame_lines}
-use Rattle.take.proofs.Puts.{Putting}
 use Rattle.take.proofs.listing.frame_lines.Given as goal
 
-abbrev pub invariant-loop-i : goal.invariant-loop-i
-invariant-loop-i l = (l.i ≤ length l.frames) × Putting (frame_lines l.word l.frames) (frame_lines l.word (drop l.i l.frames)) l.at l.initial.out l.out l.k
-
-abbrev pub decreases-loop-i : goal.decreases-loop-i
-decreases-loop-i l = length l.frames - l.i
+abbrev pub invariant-loop-frame : goal.invariant-loop-frame
+invariant-loop-frame _ l = l.page ++ frame_lines l.word (drop l.frame-index l.frames) ≡ l.initial.page ++ frame_lines l.word l.frames

@@ -1,41 +1,33 @@
--- `take::listing::mark_lines` meets its contract. The loop's invariant: the lines of the first i frames are put. Assumes nothing.
-use Prim.Native.Nat.{◌+◌, zero-le}
+-- `take::listing::mark_lines` meets its contract. The loop's invariant: the page and the lines that are left make up the whole. Assumes nothing.
 use native.Mathlib.Omega.{arith}
-use lib.ListN.{get_or, drop}
-use lib.Ieee.{nan}
+use Rattle.std.specs.Iterator.Adapters.{zip_first, zip_second}
+use Rattle.std.specs.Slice.Iter.{iter_rest}
+use Rattle.std.proofs.lemmas.Slice.Zip.{either_empty_from_Zip}
 use Rattle.take.specs.Listing.{mark_line, mark_lines}
-use Rattle.take.proofs.Puts.{putting_start, putting_length, putting_room, putting_next, putting_end}
+use Rattle.take.proofs.Writing.{write_next, write_room, write_end}
 use Rattle.take.proofs.Lines.{marks_step, marks_over}
 use Rattle.take.proofs.listing.mark_lines.Goals as goal
 
-pub loop-i-init : goal.loop-i-init
-loop-i-init c = (zero-le, c.requires.frames_len, putting_start _ _ _ c.requires.strengths_in_bounds)
-
-pub mark_line-k-requires : goal.mark_line-k-requires
-mark_line-k-requires c =
+pub mark_line-requires : goal.mark_line-requires
+mark_line-requires _ c =
     let a = c.args in
-    let l = c.loop-i in
     let w = a.word.now in
-    let h = c.loop-i-test.true in
-    let s = marks_step w a.frames.now a.strengths.now l.i h (omega (arith, h, l.invariant.1)) in
-    putting_room (mark_line w (get_or a.frames.now l.i 0) (get_or a.strengths.now l.i nan)) (mark_lines w (drop (l.i + 1) a.frames.now) (drop (l.i + 1) a.strengths.now)) (rw s at l.invariant.2)
-
-pub loop-i-preserved : goal.loop-i-preserved
-loop-i-preserved c =
-    let a = c.args in
-    let l = c.loop-i in
-    let w = a.word.now in
-    let h = c.loop-i-test.true in
-    let s = marks_step w a.frames.now a.strengths.now l.i h (omega (arith, h, l.invariant.1)) in (
-      omega (arith, h),
-      l.invariant.1,
-      putting_next (mark_line w (get_or a.frames.now l.i 0) (get_or a.strengths.now l.i nan))
-          (mark_lines w (drop (l.i + 1) a.frames.now) (drop (l.i + 1) a.strengths.now)) (rw s at l.invariant.2)
-          c.mark_line-k.ensures,
+    let p = c.in-Some in
+    let next = c.next.new.self in (
+      omega arith,
+      write_room c.loop-frame.page (mark_line w p.frame.now p.strength.now) (mark_lines w (iter_rest (zip_first next)) (iter_rest (zip_second next))) a.page.now (mark_lines w a.frames.now a.strengths.now) _ c.loop-frame.invariant
+          (marks_step w p.frame.now p.strength.now p.ensures.steps.0 p.ensures.steps.1) c.requires,
     )
 
-pub shape_of-out : goal.shape_of-out
-shape_of-out c = putting_length c.loop-i.invariant.2
+pub loop-frame-preserved : goal.loop-frame-preserved
+loop-frame-preserved _ c =
+    let w = c.args.word.now in
+    let p = c.in-Some in
+    let next = c.next.new.self in
+    write_next c.loop-frame.page (mark_line w p.frame.now p.strength.now) (mark_lines w (iter_rest (zip_first next)) (iter_rest (zip_second next))) c.loop-frame.invariant
+    (marks_step w p.frame.now p.strength.now p.ensures.steps.0 p.ensures.steps.1) c.mark_line.ensures
 
 pub returns : goal.returns
-returns c = putting_end (rw (marks_over c.args.word.now c.args.frames.now c.args.strengths.now c.loop-i.i c.loop-i-test.false) at c.loop-i.invariant.2)
+returns _ c =
+    let it = c.loop-frame.frame-iterator in
+    write_end c.loop-frame.page c.loop-frame.invariant (marks_over c.args.word.now (iter_rest (zip_first it)) (iter_rest (zip_second it)) (either_empty_from_Zip it c.next.new.self c.next.result c.in-None.is c.next.ensures.steps))

@@ -1,13 +1,12 @@
--- `take::listing::mark_lines` meets its contract. The loop's invariant: the lines of the first i frames are put. Assumes nothing.
-use Prim.Native.Nat.{◌-◌, ◌≤◌}
+-- `take::listing::mark_lines` meets its contract. The loop's invariant: the page and the lines that are left make up the whole. Assumes nothing.
 use mathlib.Core.Path.{◌≡◌}
-use lib.ListN.{length, drop}
+use mathlib.Core.List.{◌++◌}
+use Rattle.std.specs.Iterator.Adapters.{zip_first, zip_second}
+use Rattle.std.specs.Slice.Iter.{iter_rest}
 use Rattle.take.specs.Listing.{mark_lines}
-use Rattle.take.proofs.Puts.{Putting}
 use Rattle.take.proofs.listing.mark_lines.Given as goal
 
-abbrev pub invariant-loop-i : goal.invariant-loop-i
-invariant-loop-i l = (l.i ≤ length l.frames) × (length l.frames ≡ length l.strengths) × Putting (mark_lines l.word l.frames l.strengths) (mark_lines l.word (drop l.i l.frames) (drop l.i l.strengths)) l.at l.initial.out l.out l.k
-
-abbrev pub decreases-loop-i : goal.decreases-loop-i
-decreases-loop-i l = length l.frames - l.i
+abbrev pub invariant-loop-frame : goal.invariant-loop-frame
+invariant-loop-frame _ l =
+    let it = l.frame-iterator in
+    l.page ++ mark_lines l.word (iter_rest (zip_first it)) (iter_rest (zip_second it)) ≡ l.initial.page ++ mark_lines l.word l.frames l.strengths

@@ -1,9 +1,0 @@
--- `fields::put` is safe and ends.
-use Rattle.std.proofs.Common.{◌≡◌, length}
-use Rattle.compare_answers.proofs.fields.put.Given as goal
-
-abbrev pub invariant-loop-k : goal.invariant-loop-k
-invariant-loop-k l = length l.out ≡ length l.initial.out
-
-abbrev pub decreases-loop-k : goal.decreases-loop-k
-decreases-loop-k l = l.k

@@ -1,9 +1,0 @@
--- `values::read_entries` is safe and ends.
-use Rattle.std.proofs.Common.{◌-◌, ◌≡◌, length}
-use Rattle.compare_answers.proofs.values.read_entries.Given as goal
-
-abbrev pub invariant-loop-i : goal.invariant-loop-i
-invariant-loop-i l = length l.xs ≡ length l.initial.xs
-
-abbrev pub decreases-loop-i : goal.decreases-loop-i
-decreases-loop-i l = length l.initial.xs - l.i

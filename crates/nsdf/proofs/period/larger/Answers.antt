@@ -1,9 +1,0 @@
--- `larger` meets its contract. Assumes nothing.
-
-use Rattle.nsdf.proofs.period.larger.Goals as goal
-
-pub returns-then-x-y : goal.returns-then-x-y
-returns-then-x-y c = rw c.if-x-y.true
-
-pub returns-else-x-y : goal.returns-else-x-y
-returns-else-x-y c = rw c.if-x-y.false

@@ -1,7 +1,0 @@
--- `estimates::mark` meets its contract. Assumes nothing.
-use mathlib.Core.Path.{sym}
-use lib.ListN.{get_or-eq_default}
-use Rattle.recover.proofs.estimates.mark.Goals as goal
-
-pub returns : goal.returns
-returns c = sym (get_or-eq_default c.args.marks.now 0 c.if-i-marks.false)

@@ -1,9 +1,0 @@
--- `smooth::extrema::right_clear` meets its contract. Assumes nothing.
-use borrow.Author.Tests.{le-leb, lt-leb}
-use Rattle.smooth.proofs.extrema.right_clear.Goals as goal
-
-pub returns-then-s-j : goal.returns-then-s-j
-returns-then-s-j c = rw (le-leb _ _ c.if-s-j.true)
-
-pub returns-else-s-j : goal.returns-else-s-j
-returns-else-s-j c = rw (lt-leb _ _ c.if-s-j.false) c.is_beyond.ensures
