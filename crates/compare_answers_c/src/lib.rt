@@ -10,7 +10,7 @@ ghost use Rattle.repair.specs.Repair.{Pitches};
 use chain::Marks;
 use region::default_settings;
 use runs::voiced::Span;
-use smooth::extrema::Extremum;
+use smooth::extrema::{Extremum, local_extrema};
 
 // The answer to an input of a kind, at the front of out; returns its length.
 #[unsafe(no_mangle)]
@@ -36,14 +36,11 @@ pub extern "C" fn judge_level(db: &[f32], out: &mut [f32])
     smooth::level::smoothed_db(db, out);
 }
 
-// Writes the extrema of a kind to the front of out, and returns how many they are.
-#[tactic(auto, using(smooth::proofs::Stretches::extrema_fit))]
-fn put_extrema(s: &[f32], kind: Extremum, out: &mut [u32]) -> usize
-    requires { (length s.now ≤ length out.old) × (length s.now ≤ 2048) }
-{
-    let found = smooth::extrema::local_extrema(s, 0, s.len(), kind);
-    out[..found.len()].copy_from_slice(found.as_slice());
-    found.len()
+// Writes a list to the front of another, as far as that has room, and returns how many entries that are.
+fn put_list(list: &[u32], out: &mut [u32]) -> usize {
+    let n = list.len().min(out.len());
+    out[..n].copy_from_slice(&list[..n]);
+    n
 }
 
 // Maxima, then minima over them in the same list; returns the count of the minima.
@@ -51,8 +48,8 @@ fn put_extrema(s: &[f32], kind: Extremum, out: &mut [u32]) -> usize
 pub extern "C" fn judge_extrema(s: &[f32], out: &mut [u32]) -> usize
     requires { (length s.now ≤ length out.old) × (length s.now ≤ 2048) }
 {
-    put_extrema(s, Extremum::Max, out);
-    put_extrema(s, Extremum::Min, out)
+    put_list(&local_extrema(s, 0, s.len(), Extremum::Max), out);
+    put_list(&local_extrema(s, 0, s.len(), Extremum::Min), out)
 }
 
 // Writes the first and last frames of runs to two lists, and returns how many they are.

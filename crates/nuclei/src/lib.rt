@@ -8,7 +8,7 @@ pub mod merging;
 pub mod peaks;
 pub mod tops;
 
-ghost use Rattle.std.specs.Prelude.{◌≡◌, map, ◌≤◌, ◌<◌, length};
+ghost use Rattle.std.specs.Prelude.{◌≡◌, [], map, ◌+◌, ◌≤◌, ◌<◌, length};
 ghost use Rattle.lists.specs.By.{Each};
 ghost use Rattle.runs.specs.Runs.{long_runs};
 ghost use Rattle.runs.specs.Syllables.{syllable_runs};
@@ -24,18 +24,24 @@ use smooth::extrema::{Extremum, local_extrema};
 use smooth::level::smoothed_db;
 use tops::{run_tops, runs_held};
 
-// The candidates: the voiced peaks, each moved onto its run, and the tops of the runs that hold none. They are in no
-// order, and may repeat.
-pub fn candidates(r: RegionLevel<'_>, pitch: &[f32], runs: &[Span], dip: f32) -> ArrayVec<u32, 4096>
-    requires { (length r.level.now ≤ 2048) × (length runs.now ≤ 2048) }
-    ensures { result.items ≡ candidates r.entry.level.now pitch.now runs.now r.entry.bounds dip }
+// Leaves the candidates in a list that has none: the voiced peaks, each moved onto its run, and the tops of the runs that
+// hold none. They are in no order, and may repeat. The list is lent, since one that is returned lies on the stack twice more.
+pub fn candidates<const N: usize>(
+    r: RegionLevel<'_>,
+    pitch: &[f32],
+    runs: &[Span],
+    dip: f32,
+    found: &mut ArrayVec<u32, N>,
+)
+    requires room { (length r.level.now ≤ 2048) × (length runs.now ≤ 2048)
+        × (length r.level.now + length runs.now ≤ N) }
+    requires empty { found.old.items ≡ [] }
+    ensures { found.new.items ≡ candidates r.entry.level.now pitch.now runs.now r.entry.bounds dip }
 {
     let peaks = local_extrema(r.level, r.bounds.start, r.bounds.end, Extremum::Max);
-    let mut found = ArrayVec::new();
-    peaks_onto(r, pitch, runs, &peaks, &mut found);
-    let held = runs_held::<2048>(runs, &found);
-    run_tops(r, dip, runs, &held, &mut found);
-    found
+    peaks_onto(r, pitch, runs, &peaks, found);
+    let held = runs_held::<2048>(runs, found);
+    run_tops(r, dip, runs, &held, found);
 }
 
 // The frames of the nuclei, in order, given the level.
@@ -45,7 +51,9 @@ fn nucleus_frames(r: RegionLevel<'_>, pitch: &[f32], p: Settings) -> ArrayVec<u3
         (syllable_runs pitch.now) r.entry.bounds p }
 {
     let runs = long_runs(pitch);
-    let cands = candidates(r, pitch, &runs, p.dip);
+    // As many as the frames of a take and the runs that it can have.
+    let mut cands = ArrayVec::<u32, 2560>::new();
+    candidates(r, pitch, &runs, p.dip, &mut cands);
     merged(r.level, &syllables_of::<MOST_RUNS>(pitch, &runs), p, &cands)
 }
 

@@ -13,6 +13,6 @@ pub returns : goal.returns
 unfolding nucleus_frames syllable_runs
 returns c =
     let runs = c.long_runs-runs.ensures in
-    let cands = rw (c.deref.ensures.0 ∙ runs) at c.candidates-cands.ensures in
+    let cands = rw (c.deref.ensures.0 ∙ runs) at c.candidates.ensures in
     let syllables = rw (c.deref-2.ensures.0 ∙ runs) at c.syllables_of.ensures in
     rw (c.deref-3.ensures.0 ∙ syllables, c.deref-4.ensures.0 ∙ cands) at c.merged.ensures
