@@ -8,7 +8,7 @@ pub mod merging;
 pub mod peaks;
 pub mod tops;
 
-ghost use Rattle.std.specs.Prelude.{◌≡◌, [], map, ◌+◌, ◌≤◌, ◌<◌, length};
+ghost use Rattle.std.specs.Prelude.{◌≡◌, map, ◌+◌, ◌≤◌, ◌<◌, length};
 ghost use Rattle.lists.specs.By.{Each};
 ghost use Rattle.runs.specs.Runs.{long_runs};
 ghost use Rattle.runs.specs.Syllables.{syllable_runs};
@@ -24,7 +24,7 @@ use smooth::extrema::{Extremum, local_extrema};
 use smooth::level::smoothed_db;
 use tops::{run_tops, runs_held};
 
-// Leaves the candidates in a list that has none: the voiced peaks, each moved onto its run, and the tops of the runs that
+// Leaves the candidates in a list, and nothing else: the voiced peaks, each moved onto its run, and the tops of the runs that
 // hold none. They are in no order, and may repeat. The list is lent, since one that is returned lies on the stack twice more.
 pub fn candidates<const N: usize>(
     r: RegionLevel<'_>,
@@ -33,12 +33,12 @@ pub fn candidates<const N: usize>(
     dip: f32,
     found: &mut ArrayVec<u32, N>,
 )
-    requires room { (length r.level.now ≤ 2048) × (length runs.now ≤ 2048)
+    requires { (length r.level.now ≤ 2048) × (length runs.now ≤ 2048)
         × (length r.level.now + length runs.now ≤ N) }
-    requires empty { found.old.items ≡ [] }
     ensures { found.new.items ≡ candidates r.entry.level.now pitch.now runs.now r.entry.bounds dip }
 {
     let peaks = local_extrema(r.level, r.bounds.start, r.bounds.end, Extremum::Max);
+    found.clear();
     peaks_onto(r, pitch, runs, &peaks, found);
     let held = runs_held::<2048>(runs, found);
     run_tops(r, dip, runs, &held, found);
