@@ -17,7 +17,7 @@ use Rattle.region.specs.declared.Settings.{Settings}
 use Rattle.repair.specs.Repair.{Pitches}
 use Rattle.lists.proofs.Keys.{Held}
 use Rattle.admit.specs.Values.{number, pitch_admitted, all_of}
-use Rattle.admit.specs.Refusals.{order, tested, refusal, settings, speech_refusal, region_refusal, repair_refusal, recovery_refusal, nuclei_refusal, extras_refusal, boundaries_refusal, boundaries_with_refusal, chain_refusal}
+use Rattle.admit.specs.Refusals.{order, tested, refusal, settings, speech_refusal, region_refusal, repair_refusal, recovery_refusal, nuclei_refusal, extras_refusal, boundaries_with_refusal, chain_refusal}
 use Rattle.admit.proofs.Ranges.{repairable_is}
 use Rattle.admit.proofs.Every.{each_passed, rising_is}
 use Rattle.admit.proofs.First.{all_passed}
@@ -94,10 +94,6 @@ module _ (db pitch voiced : List Float) (start end : ℕ) (nuclei : List ℕ) wh
       let at = is_inside start end n region.0 in
       let more = ltb-true n bounds region.1.1.0 in
       ((at.0, at.1, leb-true n 2048 t.0, eqb-true (length pitch) n alike.0, eqb-true (length voiced) n alike.1.0), (rising_is 0 n nuclei region.1.0, omega arith))
-
-  pub boundaries_admitted : (bounds : ℕ) → boundaries_refusal db pitch voiced start end nuclei bounds ≡ 0 → BoundariesAdmitted bounds
-  unfolding boundaries_refusal
-  boundaries_admitted bounds h = boundaries_with_admitted defaults bounds h
 
 pub record ChainAdmitted (db pitch voiced : List Float) (frames strengths xframes xstrengths edges bounds : ℕ) : Type 0 where
   pub size : length db ≤ 2048

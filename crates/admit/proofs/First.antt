@@ -40,6 +40,24 @@ pub stop : (n : ℕ) (ns : List ℕ) (tests : List Test) → passed_in_turn true
 unfolding first_failed first_of
 stop n ns tests h = simp (joined_pass true tests n ∙ h)
 
+-- 1 is tested by itself: its tests fail, or what is left tells
+module _ (ns : List ℕ) (tests : List Test) where
+  pub at_once : {r : ℕ} → (r ≡ 0 → ⊥) → r ≡ cond (passes tests 1) 0 1 → r ≡ first_failed (1 ∷ ns) tests
+  unfolding first_failed first_of
+  at_once {r} some e = go (passes tests 1) _ e
+    where
+      go : (b : Bool) (later : ℕ) → r ≡ cond b 0 1 → r ≡ cond b later 1
+      go true later e = absurd (some e)
+      go false later e = e
+
+  pub later : {bs : List Bool} {r : ℕ} → ◌≡◌ {A = ℕ} 0 (cond (passes tests 1) 0 1) → r ≡ first_of (1 ∷ ns) (true ∷ bs) → bs ≡ map (passed_in_turn true tests) ns → r ≡ first_failed (1 ∷ ns) tests
+  unfolding first_failed first_of
+  later {bs} {r} e h q = h ∙ go (passes tests 1) e (numbered ns tests refl q)
+    where
+      go : (b : Bool) {k l : ℕ} → ◌≡◌ {A = ℕ} 0 (cond b 0 1) → k ≡ l → k ≡ cond b l 1
+      go true e q = q
+      go false e q = absurd (omega (arith, e))
+
 pub next : {b t : Bool} {bs ts : List Bool} → b ≡ t → bs ≡ ts → (b ∷ bs) ≡ (t ∷ ts)
 next e h = ap₂ ◌∷◌ e h
 

@@ -7,26 +7,28 @@
 pub mod numbers;
 pub mod values;
 
-ghost use Rattle.std.specs.Prelude.{◌≡◌, [], ◌∷◌};
+ghost use Rattle.std.specs.Prelude.{◌≡◌, true, cond, [], ◌∷◌, leb};
 ghost use Rattle.admit.specs.First.{first_of};
 ghost use Rattle.admit.specs.Numbers.{number_of};
-ghost use Rattle.admit.specs.Refusals.{order, speech_refusal, region_refusal, repair_refusal, recovery_refusal, nuclei_refusal, extras_refusal, boundaries_refusal, boundaries_with_refusal, chain_refusal};
+ghost use Rattle.admit.specs.Values.{all_of};
+ghost use Rattle.admit.specs.Refusals.{order, speech_refusal, region_refusal, repair_refusal, recovery_refusal, nuclei_refusal, extras_refusal, boundaries_with_refusal, chain_refusal};
 
 use numbers::{Refusal, first_failed};
-use region::{Settings, default_settings};
-use values::{all_db, all_marks, all_pitches, all_within, is_rising, settings_admitted};
+use region::Settings;
+use values::{
+    all_db, all_lengths, all_marks, all_pitches, all_within, is_rising, settings_admitted,
+};
 
 // The most frames that a take has.
-const MAX_FRAMES: usize = 2048;
+pub const MAX_FRAMES: usize = 2048;
 
 // 160 samples for each of the most frames.
 const MAX_SAMPLES: usize = 327680;
 
-// Whether the tests of each refusal are passed: by `pitch` those of pitches and `voiced_p`, by `sonority` those of
-// sonority and marks. An entry leaves what it is not given at true.
+// Whether the tests of each refusal after that of lengths are passed: by `pitch` those of pitches and `voiced_p`, by
+// `sonority` those of sonority and marks. An entry leaves what it is not given at true.
 #[derive(Clone, Copy)]
 struct Passed {
-    lengths: bool,
     alike: bool,
     settings: bool,
     db: bool,
@@ -39,7 +41,6 @@ struct Passed {
 }
 
 const UNTESTED: Passed = Passed {
-    lengths: true,
     alike: true,
     settings: true,
     db: true,
@@ -51,14 +52,23 @@ const UNTESTED: Passed = Passed {
     room: true,
 };
 
-// The table: the refusals in the order of the tests.
+// The first test: whether the lists have no more entries than a take has frames.
+fn lengths_refusal(lengths: &[usize]) -> Result<(), Refusal>
+    ensures { number_of result ≡ cond (all_of (λ m. leb m 2048) lengths.now) 0 1 }
+{
+    if !all_lengths(lengths, MAX_FRAMES) {
+        return Err(Refusal::Lengths);
+    }
+    Ok(())
+}
+
+// The table: the refusals after it, in the order of the tests.
+#[tactic(auto, unfolding(crate::specs::First::first_of))]
 fn first_refusal(t: Passed) -> Result<(), Refusal>
     ensures { number_of result ≡ first_of order
-        (t.lengths ∷ t.alike ∷ t.settings ∷ t.db ∷ t.pitch ∷ t.sonority ∷ t.region ∷ t.nuclei ∷ t.samples ∷ t.room ∷
-        []) }
+        (true ∷ t.alike ∷ t.settings ∷ t.db ∷ t.pitch ∷ t.sonority ∷ t.region ∷ t.nuclei ∷ t.samples ∷ t.room ∷ []) }
 {
     first_failed(&[
-        (t.lengths, Refusal::Lengths),
         (t.alike, Refusal::Alike),
         (t.settings, Refusal::Settings),
         (t.db, Refusal::Db),
@@ -76,39 +86,36 @@ pub fn speech_refusal(db: &[f32], p: Settings, marks: usize) -> Result<(), Refus
     ensures { number_of result ≡ speech_refusal db.now p marks }
 {
     let n = db.len();
-    if n > MAX_FRAMES {
-        return Err(Refusal::Lengths);
-    }
-    let mut t = UNTESTED;
-    t.settings = settings_admitted(p);
-    t.db = all_db(db);
-    t.room = n <= marks;
-    first_refusal(t)
+    lengths_refusal(&[n])?;
+    first_refusal(Passed {
+        settings: settings_admitted(p),
+        db: all_db(db),
+        room: n <= marks,
+        ..UNTESTED
+    })
 }
 
 // For the region.
 pub fn region_refusal(db: &[f32], p: Settings) -> Result<(), Refusal>
     ensures { number_of result ≡ region_refusal db.now p }
 {
-    if db.len() > MAX_FRAMES {
-        return Err(Refusal::Lengths);
-    }
-    let mut t = UNTESTED;
-    t.settings = settings_admitted(p);
-    t.db = all_db(db);
-    first_refusal(t)
+    lengths_refusal(&[db.len()])?;
+    first_refusal(Passed {
+        settings: settings_admitted(p),
+        db: all_db(db),
+        ..UNTESTED
+    })
 }
 
 // For the octave repair: an octave either way leaves a pitch within 20 to 4,000 Hz.
 pub fn repair_refusal(pitch: &[f32]) -> Result<(), Refusal>
     ensures { number_of result ≡ repair_refusal pitch.now }
 {
-    if pitch.len() > MAX_FRAMES {
-        return Err(Refusal::Lengths);
-    }
-    let mut t = UNTESTED;
-    t.pitch = all_pitches(pitch, 40.0, 2000.0);
-    first_refusal(t)
+    lengths_refusal(&[pitch.len()])?;
+    first_refusal(Passed {
+        pitch: all_pitches(pitch, 40.0, 2000.0),
+        ..UNTESTED
+    })
 }
 
 // For the recovery, by the number of samples. Marks may be fewer or more than the pitches.
@@ -120,14 +127,13 @@ pub fn recovery_refusal(
 ) -> Result<(), Refusal>
     ensures { number_of result ≡ recovery_refusal pitch.now samples speech.now vowel.now }
 {
-    if !((pitch.len() <= MAX_FRAMES) & (speech.len() <= MAX_FRAMES) & (vowel.len() <= MAX_FRAMES)) {
-        return Err(Refusal::Lengths);
-    }
-    let mut t = UNTESTED;
-    t.pitch = all_pitches(pitch, 20.0, 4000.0);
-    t.sonority = all_marks(speech) & all_marks(vowel);
-    t.samples = samples <= MAX_SAMPLES;
-    first_refusal(t)
+    lengths_refusal(&[pitch.len(), speech.len(), vowel.len()])?;
+    first_refusal(Passed {
+        pitch: all_pitches(pitch, 20.0, 4000.0),
+        sonority: all_marks(speech) & all_marks(vowel),
+        samples: samples <= MAX_SAMPLES,
+        ..UNTESTED
+    })
 }
 
 // For nuclei, into two lists of so many entries.
@@ -143,17 +149,16 @@ pub fn nuclei_refusal(
     ensures { number_of result ≡ nuclei_refusal db.now pitch.now start end p frames strengths }
 {
     let n = db.len();
-    if !((n <= MAX_FRAMES) & (pitch.len() <= MAX_FRAMES)) {
-        return Err(Refusal::Lengths);
-    }
-    let mut t = UNTESTED;
-    t.alike = pitch.len() == n;
-    t.settings = settings_admitted(p);
-    t.db = all_db(db);
-    t.pitch = all_pitches(pitch, 20.0, 4000.0);
-    t.region = (start <= end) & (end <= n);
-    t.room = (n <= frames) & (n <= strengths);
-    first_refusal(t)
+    lengths_refusal(&[n, pitch.len()])?;
+    first_refusal(Passed {
+        alike: pitch.len() == n,
+        settings: settings_admitted(p),
+        db: all_db(db),
+        pitch: all_pitches(pitch, 20.0, 4000.0),
+        region: (start <= end) & (end <= n),
+        room: (n <= frames) & (n <= strengths),
+        ..UNTESTED
+    })
 }
 
 // For extra candidates, into two lists and a list of edges. A sonority of another length than the track is admitted.
@@ -173,45 +178,18 @@ pub fn extras_refusal(
         nuclei.now p frames strengths edges }
 {
     let n = db.len();
-    let tracks = (n <= MAX_FRAMES) & (pitch.len() <= MAX_FRAMES) & (sonority.len() <= MAX_FRAMES);
-    if !(tracks & (nuclei.len() <= MAX_FRAMES)) {
-        return Err(Refusal::Lengths);
-    }
-    let mut t = UNTESTED;
-    t.alike = pitch.len() == n;
-    t.settings = settings_admitted(p);
-    t.db = all_db(db);
-    t.pitch = all_pitches(pitch, 20.0, 4000.0);
-    t.sonority = all_within(sonority, 0.0, 1.0);
-    t.region = (start <= end) & (end <= n);
-    t.nuclei = is_rising(nuclei, n);
-    t.room = (n <= frames) & (n <= strengths) & (n <= edges);
-    first_refusal(t)
-}
-
-// For boundaries under the defaults, into a list of `bounds` entries.
-pub fn boundaries_refusal(
-    db: &[f32],
-    pitch: &[f32],
-    voiced: &[f32],
-    start: usize,
-    end: usize,
-    nuclei: &[u32],
-    bounds: usize,
-) -> Result<(), Refusal>
-    ensures { number_of result ≡ boundaries_refusal db.now pitch.now voiced.now start end
-        nuclei.now bounds }
-{
-    boundaries_with_refusal(
-        db,
-        pitch,
-        voiced,
-        start,
-        end,
-        nuclei,
-        default_settings(),
-        bounds,
-    )
+    lengths_refusal(&[n, pitch.len(), sonority.len(), nuclei.len()])?;
+    first_refusal(Passed {
+        alike: pitch.len() == n,
+        settings: settings_admitted(p),
+        db: all_db(db),
+        pitch: all_pitches(pitch, 20.0, 4000.0),
+        sonority: all_within(sonority, 0.0, 1.0),
+        region: (start <= end) & (end <= n),
+        nuclei: is_rising(nuclei, n),
+        room: (n <= frames) & (n <= strengths) & (n <= edges),
+        ..UNTESTED
+    })
 }
 
 // For boundaries under given settings: the region's end may be frame n itself, so a list of n entries is too short.
@@ -229,19 +207,17 @@ pub fn boundaries_with_refusal(
         nuclei.now p bounds }
 {
     let n = db.len();
-    let tracks = (n <= MAX_FRAMES) & (pitch.len() <= MAX_FRAMES) & (voiced.len() <= MAX_FRAMES);
-    if !(tracks & (nuclei.len() <= MAX_FRAMES)) {
-        return Err(Refusal::Lengths);
-    }
-    let mut t = UNTESTED;
-    t.alike = (pitch.len() == n) & (voiced.len() == n);
-    t.settings = settings_admitted(p);
-    t.db = all_db(db);
-    t.pitch = all_pitches(pitch, 20.0, 4000.0) & all_within(voiced, 0.0, 1.0);
-    t.region = (start <= end) & (end <= n);
-    t.nuclei = is_rising(nuclei, n);
-    t.room = n < bounds;
-    first_refusal(t)
+    lengths_refusal(&[n, pitch.len(), voiced.len(), nuclei.len()])?;
+    first_refusal(Passed {
+        alike: (pitch.len() == n) & (voiced.len() == n),
+        settings: settings_admitted(p),
+        db: all_db(db),
+        pitch: all_pitches(pitch, 20.0, 4000.0) & all_within(voiced, 0.0, 1.0),
+        region: (start <= end) & (end <= n),
+        nuclei: is_rising(nuclei, n),
+        room: n < bounds,
+        ..UNTESTED
+    })
 }
 
 // For the chain: frames and strengths of nuclei, then of extras, then edges and boundaries are lists of so many entries.
@@ -264,19 +240,17 @@ pub fn chain_refusal(
         vowel.now samples p frames strengths xframes xstrengths edges bounds }
 {
     let n = db.len();
-    let tracks = (n <= MAX_FRAMES) & (pitch.len() <= MAX_FRAMES) & (voiced.len() <= MAX_FRAMES);
-    if !(tracks & (sonority.len() <= MAX_FRAMES) & (vowel.len() <= MAX_FRAMES)) {
-        return Err(Refusal::Lengths);
-    }
-    let mut t = UNTESTED;
-    t.alike = (pitch.len() == n) & (voiced.len() == n);
-    t.settings = settings_admitted(p);
-    t.db = all_db(db);
-    t.pitch = all_pitches(pitch, 40.0, 2000.0) & all_within(voiced, 0.0, 1.0);
-    t.sonority = all_within(sonority, 0.0, 1.0) & all_marks(vowel);
-    t.samples = samples <= MAX_SAMPLES;
+    lengths_refusal(&[n, pitch.len(), voiced.len(), sonority.len(), vowel.len()])?;
     let nuclei = (n <= frames) & (n <= strengths);
     let extras = nuclei & (n <= xframes) & (n <= xstrengths);
-    t.room = extras & (n <= edges) & (n < bounds);
-    first_refusal(t)
+    first_refusal(Passed {
+        alike: (pitch.len() == n) & (voiced.len() == n),
+        settings: settings_admitted(p),
+        db: all_db(db),
+        pitch: all_pitches(pitch, 40.0, 2000.0) & all_within(voiced, 0.0, 1.0),
+        sonority: all_within(sonority, 0.0, 1.0) & all_marks(vowel),
+        samples: samples <= MAX_SAMPLES,
+        room: extras & (n <= edges) & (n < bounds),
+        ..UNTESTED
+    })
 }

@@ -1,11 +1,11 @@
 -- Joints: their cases, the run that a nucleus belongs to, and the walk over neighbouring nuclei. Assumes nothing.
-use Prim.Native.Nat.{ℕ, ◌+◌, ◌-◌, ◌*◌, ◌≤◌, ◌<◌}
+use Prim.Native.Nat.{ℕ, ◌+◌, ◌*◌, ◌≤◌, ◌<◌}
 use native.Mathlib.Omega.{arith}
 use native.Mathlib.Nat.{le_trans, le_of_lt}
 use mathlib.Core.Path.{◌≡◌, refl, sym, ap, subst, ◌∙◌}
 use mathlib.Core.Bool.{Bool, true, false, not, ◌&&◌, cond}
 use mathlib.Core.List.{List, [], ◌∷◌, ◌++◌}
-use lib.ListN.{length, get_or, drop, length-append, length-drop}
+use lib.ListN.{length, get_or, take, drop, length-append}
 use lib.Dec.{ltb, eqb}
 use Rattle.std.specs.Prelude.{Option, None, Some}
 use lib.Ieee.{Float}
@@ -14,9 +14,8 @@ use Rattle.lists.specs.Results.{cons_if, filter}
 use Rattle.lists.specs.By.{Each}
 use Rattle.lists.specs.Sorted.{StrictlyRises}
 use Rattle.lists.proofs.Tests.{and_cases, and_both}
-use Rattle.lists.proofs.Fill.{drop_step, filter_le, filter_append}
+use Rattle.lists.proofs.Fill.{filter_le, filter_append}
 use Rattle.lists.proofs.Entries.{each_map, each_filter}
-use Rattle.lists.proofs.Members.{strict_at, strict_get}
 use Rattle.smooth.specs.Extrema.{argmin_middle, shallow}
 use Rattle.runs.specs.Runs.{InTrack}
 use Rattle.runs.specs.declared.voiced.Span.{Span}
@@ -26,8 +25,9 @@ use Rattle.runs.proofs.Nearest.{run_of_answers, found_each}
 use Rattle.boundaries.specs.declared.taken.Kept.{Kept}
 use Rattle.boundaries.specs.Joints.{joint_by, joint, joints, inner, joints_inside}
 use Rattle.boundaries.specs.Taken.{AddedInTurn}
-use Rattle.boundaries.proofs.Cells.{add_none, add_then, Trying, trying_some, trying_end}
+use Rattle.boundaries.proofs.Cells.{add_none, add_then, Trying, trying_start, trying_some, trying_end}
 use Rattle.boundaries.proofs.Turns.{In}
+use Rattle.boundaries.proofs.Neighbours.{FirstTwo, first_two, next_rises}
 
 -- the run that is found lies in the track
 pub found_within : (n : ℕ) (rs : List Span) (at : ℕ) (f : Found) → InTrack n rs → run_of rs at ≡ Some f → f.run.last < n
@@ -47,43 +47,6 @@ module _ (level : List Float) (rs : List Span) (dip : Float) (a b : ℕ) where
       joint level rs dip a b ≡ cond (not (eqb x.number y.number) && shallow level a b dip) ((x.run.last + 1) ∷ y.run.first ∷ []) (argmin_middle level a b ∷ [])
   unfolding joint
   joint_both e d = rw (e, d)
-
--- ---- the walk
-module _ (level : List Float) (rs : List Span) (dip : Float) (start end : ℕ) (ns : List ℕ) (i : ℕ) where
-  joints_next : i + 1 < length ns → joints_inside level rs dip start end (drop i ns) ≡ filter (inner start end) (joint level rs dip (get_or ns i 0) (get_or ns (i + 1) 0)) ++ joints_inside level rs dip start end (drop (i + 1) ns)
-  unfolding joints_inside joints
-  joints_next h =
-      ap (λ (l : List ℕ). filter (inner start end) (joints level rs dip l)) (drop_step ns i 0 (omega arith) ∙ ap (λ (l : List ℕ). get_or ns i 0 ∷ l) (drop_step ns (i + 1) 0 h))
-      ∙ filter_append (inner start end) (joint level rs dip (get_or ns i 0) (get_or ns (i + 1) 0)) (joints level rs dip (get_or ns (i + 1) 0 ∷ drop (i + 1 + 1) ns))
-      ∙ ap (λ (l : List ℕ). filter (inner start end) (joint level rs dip (get_or ns i 0) (get_or ns (i + 1) 0)) ++ filter (inner start end) (joints level rs dip l)) (sym (drop_step ns (i + 1) 0 h))
-
-  pub joints_over : length ns ≤ i + 1 → joints_inside level rs dip start end (drop i ns) ≡ []
-  unfolding joints_inside joints filter
-  joints_over h = go (drop i ns) (rw length-drop (omega arith))
-    where
-      many : (n : ℕ) → 1 + (1 + n) ≤ 1 → ⊥
-      many n g = omega arith
-
-      go : (l : List ℕ) → length l ≤ 1 → filter (inner start end) (joints level rs dip l) ≡ []
-      go [] g = refl
-      go (a ∷ []) g = refl
-      go (a ∷ b ∷ l) g = absurd (many (length l) (omega arith))
-
--- at the second of two neighbours
-joints_on : (level : List Float) (rs : List Span) (dip : Float) (start end : ℕ) (ns : List ℕ) (i : ℕ) → 1 ≤ i → i < length ns →
-    joints_inside level rs dip start end (drop (i - 1) ns) ≡ filter (inner start end) (joint level rs dip (get_or ns (i - 1) 0) (get_or ns i 0)) ++ joints_inside level rs dip start end (drop (i + 1 - 1) ns)
-joints_on level rs dip start end ns i past h =
-    let p : i - 1 + 1 ≡ i = omega arith in
-    let q : i - 1 + 1 ≡ i + 1 - 1 = omega arith in
-    joints_next level rs dip start end ns (i - 1) (omega arith)
-    ∙ ap (λ (j : ℕ). filter (inner start end) (joint level rs dip (get_or ns (i - 1) 0) (get_or ns j 0)) ++ joints_inside level rs dip start end (drop (i - 1 + 1) ns)) p
-    ∙ ap (λ (j : ℕ). filter (inner start end) (joint level rs dip (get_or ns (i - 1) 0) (get_or ns i 0)) ++ joints_inside level rs dip start end (drop j ns)) q
-
--- nuclei that rise: neighbours, and the track
-pub nuclei_at : (n : ℕ) (ns : List ℕ) (i : ℕ) → StrictlyRises 0 n ns → 1 ≤ i → i < length ns → (get_or ns (i - 1) 0 ≤ get_or ns i 0) × (get_or ns i 0 < n)
-nuclei_at n ns i s past h =
-    let p : i - 1 + 1 ≡ i = omega arith in
-    (le_of_lt (subst (λ (j : ℕ). get_or ns (i - 1) 0 < get_or ns j 0) p (strict_at 0 n ns s (i - 1) (omega arith))), strict_get 0 n ns i h s)
 
 module _ (start end at : ℕ) where
   only : (b : Bool) → inner start end at ≡ b → filter (inner start end) (at ∷ []) ≡ cons_if b at []
@@ -108,16 +71,54 @@ module _ (start end at : ℕ) where
 pub two_inside : (p : ℕ → Bool) (l f : ℕ) {k k' k'' : Kept} → AddedInTurn (filter p (l ∷ [])) k k' → AddedInTurn (filter p (f ∷ [])) k' k'' → AddedInTurn (filter p (l ∷ f ∷ [])) k k''
 two_inside p l f {k} {k'} {k''} a b = subst (λ (xs : List ℕ). AddedInTurn xs k k'') (sym (filter_append p (l ∷ []) (f ∷ []))) (add_then a b)
 
-module _ (level : List Float) (rs : List Span) (dip : Float) (start end : ℕ) (ns : List ℕ) (i : ℕ) (past : 1 ≤ i) {whole : List ℕ} {old k : Kept}
-    (t : Trying whole (joints_inside level rs dip start end (drop (i - 1) ns)) old k) where
-  pub joints_step : i < length ns → {js : List ℕ} {k' : Kept} → js ≡ joint level rs dip (get_or ns (i - 1) 0) (get_or ns i 0) → AddedInTurn (filter (inner start end) js) k k' →
-      Trying whole (joints_inside level rs dip start end (drop (i + 1 - 1) ns)) old k'
-  joints_step h {js} {k'} e a =
-      trying_some (subst (λ (rest : List ℕ). Trying whole rest old k) (joints_on level rs dip start end ns i past h) t)
-      (subst (λ (xs : List ℕ). AddedInTurn (filter (inner start end) xs) k k') e a)
+-- ---- the walk: the joints of rest are left to try
+module _ (level : List Float) (rs : List Span) (dip : Float) (start end n : ℕ) (ns : List ℕ) where
+  abbrev pub inside_of : List ℕ → List ℕ
+  inside_of rest = joints_inside level rs dip start end rest
 
-  pub joints_end : length ns ≤ i → AddedInTurn whole old k
-  joints_end h = trying_end (subst (λ (rest : List ℕ). Trying whole rest old k) (joints_over level rs dip start end ns (i - 1) (omega arith)) t)
+  pub record Joining (rest : List ℕ) (size : ℕ) (old k : Kept) : Type 0 where
+    pub two : size ≡ 2
+    pub rises : StrictlyRises 0 n rest
+    pub left : Trying (inside_of ns) (inside_of rest) old k
+
+  pub joining_start : {rest : List ℕ} {size : ℕ} (k : Kept) → rest ≡ ns → size ≡ 2 → StrictlyRises 0 n ns → Joining rest size k k
+  joining_start k e s r = record { two = s; rises = rw e r; left = rw e (trying_start (inside_of ns) k) }
+
+  lone : (rest : List ℕ) → length rest < 2 → inside_of rest ≡ []
+  unfolding joints_inside joints filter
+  lone [] h = refl
+  lone (a ∷ []) h = refl
+  lone (a ∷ b ∷ rest) h = absurd (omega arith)
+
+  module _ {rest : List ℕ} {size : ℕ} {old k : Kept} (c : Joining rest size old k) where
+    pub joining_end : length rest < size → AddedInTurn (inside_of ns) old k
+    joining_end h = trying_end (subst (λ (l : List ℕ). Trying (inside_of ns) l old k) (lone rest (omega (arith, h, c.two))) c.left)
+
+    module _ {w rest' : List ℕ} {size' : ℕ} (s : size' ≡ size) (h : size ≤ length rest) (e : w ≡ take size rest) (f : rest' ≡ drop 1 rest) where
+      split : FirstTwo rest w rest'
+      split = first_two rest c.two h e f
+
+      ends : (get_or w 0 0 < get_or w 1 0) × (get_or w 1 0 < n) × StrictlyRises 0 n rest'
+      ends = next_rises n split c.rises
+
+      pub pair_rises : (get_or w 0 0 ≤ get_or w 1 0) × (get_or w 1 0 < n)
+      pair_rises = (le_of_lt ends.0, ends.1)
+
+      here : inside_of rest ≡ filter (inner start end) (joint level rs dip (get_or w 0 0) (get_or w 1 0)) ++ inside_of rest'
+      unfolding joints_inside joints
+      here =
+          ap (λ (l : List ℕ). filter (inner start end) (joints level rs dip l)) split.whole
+          ∙ filter_append (inner start end) (joint level rs dip (get_or w 0 0) (get_or w 1 0)) (joints level rs dip (get_or w 1 0 ∷ split.rest))
+          ∙ ap (λ (l : List ℕ). filter (inner start end) (joint level rs dip (get_or w 0 0) (get_or w 1 0)) ++ filter (inner start end) (joints level rs dip l)) (sym split.next)
+
+      pub joining_on : {js : List ℕ} {k' : Kept} → js ≡ joint level rs dip (get_or w 0 0) (get_or w 1 0) → AddedInTurn (filter (inner start end) js) k k' → Joining rest' size' old k'
+      joining_on {js} {k'} p a = record {
+        two = s ∙ c.two;
+        rises = ends.2;
+        left =
+            trying_some (subst (λ (l : List ℕ). Trying (inside_of ns) l old k) here c.left)
+            (subst (λ (xs : List ℕ). AddedInTurn (filter (inner start end) xs) k k') p a);
+      }
 
 -- ---- the joints lie inside the region, and are few
 pub joints_in : (level : List Float) (rs : List Span) (dip : Float) (start end : ℕ) (ns : List ℕ) → Each (In start end) (joints_inside level rs dip start end ns)

@@ -1,4 +1,5 @@
 pub mod Adding
+pub mod Neighbours
 pub mod Spreading
 pub mod Cells
 pub mod Turns

@@ -13,7 +13,6 @@ use Rattle.lists.specs.Results.{filter}
 use Rattle.lists.proofs.Tests.{test_iff}
 use Rattle.lists.specs.Sorted.{StrictlyRises}
 use Rattle.lists.proofs.Fill.{drop_step}
-use Rattle.lists.proofs.Members.{strict_at, strict_get}
 use Rattle.smooth.specs.Extrema.{inside}
 use lib.Ieee.{Float}
 use Rattle.lists.specs.By.{Each}
@@ -24,6 +23,7 @@ use Rattle.runs.proofs.Spacing.{dropout_wide}
 use Rattle.boundaries.specs.Taken.{marked, Spread}
 use Rattle.boundaries.specs.Edges.{filled, in_creak}
 use Rattle.boundaries.specs.Minima.{in_long_span}
+use Rattle.boundaries.proofs.Neighbours.{FirstTwo, first_two, next_rises}
 
 -- ---- a walk that marks frames: those that are marked, and the test that is left to spread, are the whole test
 pub record Spreading (whole rest : ℕ → Bool) (m : List Bool) : Type 0 where
@@ -120,54 +120,55 @@ pub gap_wide : (pitch : List Float) {gs : List Span} → gs ≡ dropouts pitch �
 gap_wide pitch {gs} e i h = each_at (λ g. (g.first + 3 < g.last) × (g.last < length pitch)) gs (record { first = 0; last = 0 }) (subst (Each (λ g. (g.first + 3 < g.last) × (g.last < length pitch))) (sym e) (dropout_wide pitch)) i h
 
 -- ---- long spans
-module _ (kept : List ℕ) (i : ℕ) where
-  span_split : i + 1 < length kept → drop i kept ≡ get_or kept i 0 ∷ get_or kept (i + 1) 0 ∷ drop (i + 1 + 1) kept
-  span_split h = drop_step kept i 0 (omega arith) ∙ ap (λ (l : List ℕ). get_or kept i 0 ∷ l) (drop_step kept (i + 1) 0 h)
+in_none : (kept : List ℕ) → length kept < 2 → (x : ℕ) → in_long_span kept x ≡ false
+unfolding in_long_span
+in_none [] h x = refl
+in_none (a ∷ []) h x = refl
+in_none (a ∷ b ∷ kept) h x = absurd (omega arith)
 
-  pub spans_on : i + 1 < length kept → (x : ℕ) →
-      in_long_span (drop i kept) x ≡ ((ltb 35 (get_or kept (i + 1) 0 - get_or kept i 0) && inside (get_or kept i 0 + 1) (get_or kept (i + 1) 0) x) || in_long_span (drop (i + 1) kept) x)
-  unfolding in_long_span
-  spans_on h x =
-      ap (λ (l : List ℕ). in_long_span l x) (span_split h)
-      ∙ ap (λ (l : List ℕ). (ltb 35 (get_or kept (i + 1) 0 - get_or kept i 0) && inside (get_or kept i 0 + 1) (get_or kept (i + 1) 0) x) || in_long_span l x) (sym (drop_step kept (i + 1) 0 h))
+-- the walk: marks are made inside the long spans of kept, but for those of rest
+pub record Spans (kept rest : List ℕ) (size : ℕ) (m : List Bool) : Type 0 where
+  pub two : size ≡ 2
+  pub rises : StrictlyRises 0 2049 rest
+  pub left : Spreading (in_long_span kept) (in_long_span rest) m
 
-  pub spans_over : length kept ≤ i + 1 → (x : ℕ) → in_long_span (drop i kept) x ≡ false
-  unfolding in_long_span
-  spans_over h x = go (drop i kept) (rw length-drop (omega arith))
-    where
-      many : (n : ℕ) → suc (suc n) ≤ 1 → ⊥
-      many n g = omega arith
+pub spans_start : (kept : List ℕ) {rest : List ℕ} {size : ℕ} → rest ≡ kept → size ≡ 2 → StrictlyRises 0 2049 kept → Spans kept rest size (replicate 2048 false)
+spans_start kept e s r = record { two = s; rises = rw e r; left = rw e (spreading_start (in_long_span kept)) }
 
-      go : (l : List ℕ) → length l ≤ 1 → in_long_span l x ≡ false
-      go [] g = refl
-      go (a ∷ []) g = refl
-      go (a ∷ b ∷ l) g = absurd (many (length l) g)
+module _ {kept rest : List ℕ} {size : ℕ} {m : List Bool} (c : Spans kept rest size m) where
+  pub spans_end : length rest < size → marked m ≡ in_long_span kept
+  spans_end h = spreading_end (in_none rest (omega (arith, h, c.two))) c.left
 
-module _ (kept : List ℕ) (i : ℕ) (past : 1 ≤ i) where
-  here : i < length kept → (x : ℕ) → in_long_span (drop (i - 1) kept) x ≡ ((ltb 35 (get_or kept i 0 - get_or kept (i - 1) 0) && inside (get_or kept (i - 1) 0 + 1) (get_or kept i 0) x) || in_long_span (drop (i + 1 - 1) kept) x)
-  here h x =
-      let p : i - 1 + 1 ≡ i = omega arith in
-      let q : i - 1 + 1 ≡ i + 1 - 1 = omega arith in
-      spans_on kept (i - 1) (omega arith) x
-      ∙ ap (λ (j : ℕ). (ltb 35 (get_or kept j 0 - get_or kept (i - 1) 0) && inside (get_or kept (i - 1) 0 + 1) (get_or kept j 0) x) || in_long_span (drop (i - 1 + 1) kept) x) p
-      ∙ ap (λ (j : ℕ). (ltb 35 (get_or kept i 0 - get_or kept (i - 1) 0) && inside (get_or kept (i - 1) 0 + 1) (get_or kept i 0) x) || in_long_span (drop j kept) x) q
+  module _ {w rest' : List ℕ} {size' : ℕ} (s : size' ≡ size) (h : size ≤ length rest) (e : w ≡ take size rest) (f : rest' ≡ drop 1 rest) where
+    split : FirstTwo rest w rest'
+    split = first_two rest c.two h e f
 
-  pub spans_long : {whole : ℕ → Bool} {m : List Bool} → i < length kept → {m' : List Bool} → 35 < get_or kept i 0 - get_or kept (i - 1) 0 → Spread (inside (get_or kept (i - 1) 0 + 1) (get_or kept i 0)) m m' →
-      Spreading whole (in_long_span (drop (i - 1) kept)) m → Spreading whole (in_long_span (drop (i + 1 - 1) kept)) m'
-  spans_long h g s f =
-      spreading_on (in_long_span (drop (i + 1 - 1) kept))
-      (λ x. here h x ∙ ap (λ (b : Bool). (b && inside (get_or kept (i - 1) 0 + 1) (get_or kept i 0) x) || in_long_span (drop (i + 1 - 1) kept) x) (lt-ltb 35 (get_or kept i 0 - get_or kept (i - 1) 0) g)) s f
+    ends : (get_or w 0 0 < get_or w 1 0) × (get_or w 1 0 < 2049) × StrictlyRises 0 2049 rest'
+    ends = next_rises 2049 split c.rises
 
-  pub spans_short : {whole : ℕ → Bool} {m : List Bool} → i < length kept → get_or kept i 0 - get_or kept (i - 1) 0 ≤ 35 → Spreading whole (in_long_span (drop (i - 1) kept)) m → Spreading whole (in_long_span (drop (i + 1 - 1) kept)) m
-  spans_short h g f =
-      spreading_same
-      (λ x. here h x ∙ ap (λ (b : Bool). (b && inside (get_or kept (i - 1) 0 + 1) (get_or kept i 0) x) || in_long_span (drop (i + 1 - 1) kept) x) (le-ltb 35 (get_or kept i 0 - get_or kept (i - 1) 0) g)) f
+    pub span_rises : (get_or w 0 0 < get_or w 1 0) × (get_or w 1 0 < 2049)
+    span_rises = (ends.0, ends.1)
 
-  pub spans_end : {whole : ℕ → Bool} {m : List Bool} → length kept ≤ i → Spreading whole (in_long_span (drop (i - 1) kept)) m → marked m ≡ whole
-  spans_end h f = spreading_end (spans_over kept (i - 1) (omega arith)) f
+    here : (x : ℕ) → in_long_span rest x ≡ ((ltb 35 (get_or w 1 0 - get_or w 0 0) && inside (get_or w 0 0 + 1) (get_or w 1 0) x) || in_long_span rest' x)
+    unfolding in_long_span
+    here x =
+        ap (λ (l : List ℕ). in_long_span l x) split.whole
+        ∙ ap (λ (l : List ℕ). (ltb 35 (get_or w 1 0 - get_or w 0 0) && inside (get_or w 0 0 + 1) (get_or w 1 0) x) || in_long_span l x) (sym split.next)
 
--- neighbours of a list that rises
-pub rise_at : (kept : List ℕ) → StrictlyRises 0 2049 kept → (i : ℕ) → 1 ≤ i → i < length kept → (get_or kept (i - 1) 0 < get_or kept i 0) × (get_or kept i 0 < 2049)
-rise_at kept s i past h =
-    let p : i - 1 + 1 ≡ i = omega arith in
-    (subst (λ (j : ℕ). get_or kept (i - 1) 0 < get_or kept j 0) p (strict_at 0 2049 kept s (i - 1) (omega arith)), strict_get 0 2049 kept i h s)
+    pub spans_long : {m' : List Bool} → 35 < get_or w 1 0 - get_or w 0 0 → Spread (inside (get_or w 0 0 + 1) (get_or w 1 0)) m m' → Spans kept rest' size' m'
+    spans_long g p = record {
+      two = s ∙ c.two;
+      rises = ends.2;
+      left =
+          spreading_on (in_long_span rest')
+          (λ x. here x ∙ ap (λ (b : Bool). (b && inside (get_or w 0 0 + 1) (get_or w 1 0) x) || in_long_span rest' x) (lt-ltb 35 (get_or w 1 0 - get_or w 0 0) g)) p c.left;
+    }
+
+    pub spans_short : get_or w 1 0 - get_or w 0 0 ≤ 35 → Spans kept rest' size' m
+    spans_short g = record {
+      two = s ∙ c.two;
+      rises = ends.2;
+      left =
+          spreading_same
+          (λ x. here x ∙ ap (λ (b : Bool). (b && inside (get_or w 0 0 + 1) (get_or w 1 0) x) || in_long_span rest' x) (le-ltb 35 (get_or w 1 0 - get_or w 0 0) g)) c.left;
+    }

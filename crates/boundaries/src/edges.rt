@@ -95,12 +95,7 @@ impl Speech<'_> {
     fn fills(self, a: usize, b: usize) -> bool
         ensures { result ≡ all_frames (speech_at self.entry.threshold self.entry.db.now) a (b - a) }
     {
-        for i in a..b {
-            if !self.at(i) {
-                return false;
-            }
-        }
-        true
+        (a..b).all(|i| self.at(i))
     }
 
     // Marks of the frames in creaks: dropouts whose frames are all speech, each with the first frame after it.

@@ -14,7 +14,7 @@ use region::Bounds;
 use runs::near::run_of;
 use runs::syllables::syllable_runs;
 use runs::voiced::Span;
-use smooth::extrema::{argmin_middle, shallow_valley};
+use smooth::extrema::{Extremum, Part};
 
 // A joint of two nuclei: the frame of the lowest level between them, or both edges of the pitch break.
 #[derive(Clone, Copy)]
@@ -23,30 +23,30 @@ pub enum Joint {
     Break(u32, u32),
 }
 
-// The frame of the lowest level from a to b, as a joint.
-fn lowest_joint(level: &[f32], a: u32, b: u32) -> Joint
-    requires { (a ≤ b) × (b < length level.now) × (length level.now ≤ 2048) }
-    ensures { joint_frames result ≡ argmin_middle level.now a b ∷ [] }
+// The frame of the lowest level between two nuclei, as a joint.
+fn lowest_joint(between: Part<'_>) -> Joint
+    requires { length between.s.now ≤ 2048 }
+    ensures { joint_frames result ≡ argmin_middle between.entry.s.now between.entry.a between.entry.b ∷ [] }
 {
-    Joint::Lowest(argmin_middle(level, a as usize, b as usize) as u32)
+    Joint::Lowest(between.extremum_middle(Extremum::Min) as u32)
 }
 
-// The joint of the nuclei a and b, given the syllable runs.
-fn joint_of(level: &[f32], runs: &[Span], dip: f32, a: u32, b: u32) -> Joint
-    requires a_le_b { (a ≤ b) × (b < length level.now) × (length level.now ≤ 2048) }
-    requires in_track { InTrack (length level.now) runs.now × (length runs.now ≤ 2048) }
-    ensures { joint_frames result ≡ joint level.now runs.now dip a b }
+// The joint of the nuclei at the ends of a part, given the syllable runs.
+fn joint_of(between: Part<'_>, runs: &[Span], dip: f32) -> Joint
+    requires fits { length between.s.now ≤ 2048 }
+    requires in_track { InTrack (length between.s.now) runs.now × (length runs.now ≤ 2048) }
+    ensures { joint_frames result ≡ joint between.entry.s.now runs.now dip between.entry.a between.entry.b }
 {
-    let Some(x) = run_of(runs, a) else {
-        return lowest_joint(level, a, b);
+    let Some(x) = run_of(runs, between.a as u32) else {
+        return lowest_joint(between);
     };
-    let Some(y) = run_of(runs, b) else {
-        return lowest_joint(level, a, b);
+    let Some(y) = run_of(runs, between.b as u32) else {
+        return lowest_joint(between);
     };
-    if x.number != y.number && shallow_valley(level, a as usize, b as usize, dip) {
+    if x.number != y.number && between.is_shallow(dip) {
         return Joint::Break(x.run.last + 1, y.run.first);
     }
-    lowest_joint(level, a, b)
+    lowest_joint(between)
 }
 
 // Tries a frame if it lies strictly inside the region.
@@ -81,8 +81,12 @@ pub fn add_joints(t: Tracks, dip: f32, nuclei: &[u32], kept: &mut Kept)
         t.entry.bounds.start t.entry.bounds.end nuclei.now) kept.old kept.new }
 {
     let runs = syllable_runs(t.pitch);
-    for i in 1..nuclei.len() {
-        let joint = joint_of(t.level, &runs, dip, nuclei[i - 1], nuclei[i]);
-        add_joint(joint, t.bounds, kept);
+    for pair in nuclei.windows(2) {
+        let between = Part {
+            s: t.level,
+            a: pair[0] as usize,
+            b: pair[1] as usize,
+        };
+        add_joint(joint_of(between, &runs, dip), t.bounds, kept);
     }
 }

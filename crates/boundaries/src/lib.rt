@@ -7,13 +7,13 @@
 ghost use Rattle.std.specs.Prelude.{◌≡◌, ◌+◌, ◌≤◌, length};
 ghost use Rattle.lists.specs.Results.{Listed};
 ghost use Rattle.lists.specs.Sorted.{StrictlyRises};
-ghost use Rattle.region.specs.Defaults.{defaults};
 ghost use Rattle.boundaries.specs.Boundaries.{boundaries_in, boundaries_of};
 
+use arrayvec::ArrayVec;
 use edges::{Speech, Voicing, add_edges};
 use joints::add_joints;
 use minima::add_minima;
-use region::{Bounds, Settings, default_settings, speech_threshold};
+use region::{Bounds, Settings, speech_threshold};
 use smooth::level::smoothed_db;
 use taken::Kept;
 use tracks::Tracks;
@@ -50,7 +50,8 @@ pub fn boundaries_over(t: Tracks, dip: f32, nuclei: &[u32], out: &mut [u32]) -> 
     add_edges(&speech, b, &mut kept);
     add_edges(&voicing, b, &mut kept);
     add_minima(t.level, &skip, &mut kept);
-    let frames = kept.frames(t.level.len());
+    let mut frames = ArrayVec::<u32, 2049>::new();
+    kept.frames(t.level.len(), &mut frames);
     let n = frames.len();
     out[..n].copy_from_slice(&frames);
     n
@@ -88,33 +89,4 @@ pub fn boundaries_with(
         },
     };
     boundaries_over(tracks, p.dip, nuclei, out)
-}
-
-// The same under the default settings.
-pub fn boundaries(
-    db: &[f32],
-    pitch: &[f32],
-    voiced: &[f32],
-    start: usize,
-    end: usize,
-    nuclei: &[u32],
-    out: &mut [u32],
-) -> usize
-    requires start_le_end { (start ≤ end) × (end ≤ length db.now) × (length db.now ≤ 2048) × (length pitch.now ≡ length db.now)
-        × (length voiced.now ≡ length db.now) }
-    requires strictly_rises { StrictlyRises 0 (length db.now) nuclei.now }
-    requires db_in_bounds { length db.now + 1 ≤ length out.old }
-    ensures { Listed (boundaries_of db.now pitch.now voiced.now start end
-        nuclei.now defaults) out.old out.new result }
-{
-    boundaries_with(
-        db,
-        pitch,
-        voiced,
-        start,
-        end,
-        nuclei,
-        default_settings(),
-        out,
-    )
 }

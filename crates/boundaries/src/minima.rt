@@ -18,6 +18,7 @@ use smooth::extrema::{Extremum, local_extrema, lower};
 const LONG_SPAN_FRAMES: u32 = 35;
 
 // The top of the hill on the left of frame i, across flat stretches; where the track begins at the latest.
+// By index, as the next: a place in the track is what it answers.
 fn climb_left(level: &[f32], i: usize) -> usize
     requires { i < length level.now }
     ensures { (result ≡ climb_left level.now i) × (result ≤ i) }
@@ -61,11 +62,9 @@ fn long_spans(kept: &[u32]) -> [bool; 2048]
     ensures { marked result ≡ in_long_span kept.now }
 {
     let mut marks = [false; 2048];
-    for i in 1..kept.len() {
-        let a = kept[i - 1];
-        let b = kept[i];
-        if LONG_SPAN_FRAMES < b - a {
-            mark_frames(a as usize + 1, b as usize, &mut marks);
+    for span in kept.windows(2) {
+        if LONG_SPAN_FRAMES < span[1] - span[0] {
+            mark_frames(span[0] as usize + 1, span[1] as usize, &mut marks);
         }
     }
     marks
@@ -79,8 +78,11 @@ pub fn add_minima(level: &[f32], skip: &[bool; 2048], kept: &mut Kept)
         → Taken (add_all kept.old.cap ks (in_turn (minima level.now (marked skip.now) (sorted ks))))
         kept.new }
 {
-    let spans = long_spans(&kept.frames(level.len()));
-    let minima = local_extrema(level, 0, level.len(), Extremum::Min);
+    let mut frames = ArrayVec::<u32, 2049>::new();
+    kept.frames(level.len(), &mut frames);
+    let spans = long_spans(&frames);
+    let mut minima = ArrayVec::<u32, 2048>::new();
+    local_extrema(level, 0, level.len(), Extremum::Min, &mut minima);
     let mut keys: ArrayVec<u64, 2048> = ArrayVec::new();
     for m in minima.as_slice() {
         let i = *m as usize;

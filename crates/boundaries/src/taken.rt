@@ -67,17 +67,16 @@ impl Kept {
         }
     }
 
-    // The kept frames up to frame n, in order.
-    pub fn frames(&self, n: usize) -> ArrayVec<u32, 2049>
+    // Leaves the kept frames up to frame n, in order, in a list, and nothing else.
+    pub fn frames(&self, n: usize, frames: &mut ArrayVec<u32, 2049>)
         requires { n ≤ 2048 }
-        ensures { result.items ≡ taken_frames self.now.marks n }
+        ensures { frames.new.items ≡ taken_frames self.now.marks n }
     {
-        let mut frames = ArrayVec::new();
+        frames.clear();
         for x in 0..n + 1 {
             if self.marks[x + 2] {
                 frames.push(x as u32);
             }
         }
-        frames
     }
 }

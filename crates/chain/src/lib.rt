@@ -1,4 +1,7 @@
 // The whole chain: speech marks, recovery, repair, region, nuclei, extra candidates, boundaries, each on the tracks so far.
+// Each track and list of `chain` is a parameter of its own, as the C interface gives them.
+// That a track has at most 2,048 frames goes with `Tracks`; where pitches are written it is a `requires` and no type, as in the
+// stages that are called.
 #![tactic(auto)]
 
 ghost use Rattle.std.specs.Prelude.{◌≡◌, ◌≤◌, length, Some, Ok};
@@ -7,8 +10,8 @@ ghost use Rattle.repair.specs.Repair.{Pitches, repaired};
 ghost use Rattle.recover.specs.Recovered.{recovered};
 ghost use Rattle.chain.specs.Chain.{take_of, lists_of, Room, reading_in, reading_with, marks_in, marks_for, MarkCall, ChainCall};
 
-use admit::chain_refusal;
 use admit::numbers::Refusal;
+use admit::{MAX_FRAMES, chain_refusal};
 use boundaries::boundaries_with;
 use extra::extra_candidates;
 use recover::recover_pitch;
@@ -48,31 +51,20 @@ pub struct Marks {
     pub boundaries: usize,
 }
 
-// What is found, with the number of an admitted call.
+// What is found, with the number of an admitted call. A region that is not there has ends of 0.
 fn told(m: Marked) -> Marks
     ensures { result ≡ marks_in m.region m }
 {
-    match m.region {
-        None => Marks {
-            refusal: 0,
-            found: false,
-            start: 0,
-            end: 0,
-            nuclei: m.nuclei,
-            extras: m.extras,
-            edges: m.edges,
-            boundaries: m.boundaries,
-        },
-        Some(r) => Marks {
-            refusal: 0,
-            found: true,
-            start: r.start,
-            end: r.end,
-            nuclei: m.nuclei,
-            extras: m.extras,
-            edges: m.edges,
-            boundaries: m.boundaries,
-        },
+    let (start, end) = m.region.map_or((0, 0), |r| (r.start, r.end));
+    Marks {
+        refusal: 0,
+        found: m.region.is_some(),
+        start,
+        end,
+        nuclei: m.nuclei,
+        extras: m.extras,
+        edges: m.edges,
+        boundaries: m.boundaries,
     }
 }
 
@@ -84,39 +76,34 @@ impl From<Result<Marked, Refusal>> for Marks {
             Ok(m) => told(m),
             Err(refusal) => Marks {
                 refusal: u32::from(refusal),
-                found: false,
-                start: 0,
-                end: 0,
-                nuclei: 0,
-                extras: 0,
-                edges: 0,
-                boundaries: 0,
+                ..told(UNMARKED)
             },
         }
     }
 }
 
 // Recovers the pitches that the tracker left out, and then repairs the joined track, so that recovered stretches are beside each
-// other when their octaves are compared.
+// other when their octaves are compared. Marks are bytes, as C lends those of vowels.
 fn mark_pitches(db: &[f32], pitch: &mut [f32], vowel: &[u8], samples: &[i16], p: Settings)
     requires { (length db.now ≤ 2048) × (length pitch.old ≡ length db.now) × Pitches 40 2000 pitch.old }
     ensures { pitch.new ≡ repaired (recovered pitch.old samples.now
         (marks_of db.now p) vowel.now) }
 {
-    let mut speech = [0u8; 2048];
+    let mut speech = [0u8; MAX_FRAMES];
     speech_frames(db, p, &mut speech);
     recover_pitch(pitch, samples, &speech[..db.len()], vowel);
     repair_octaves(pitch);
 }
 
-// The tracks of a take whose pitches are recovered and repaired. The result lists stand loose: the borrow checker does not
-// cover a call that is lent two lists of a struct.
+// The tracks of an admitted take whose pitches are recovered and repaired; sonority may have another length. The result
+// lists stand loose: the borrow checker does not cover a call that is lent two lists of a struct.
 #[derive(Clone, Copy)]
 struct Tracks<'a> {
     db: &'a [f32],
     pitch: &'a [f32],
     voiced: &'a [f32],
     sonority: &'a [f32],
+    ghost alike: { (length db.now ≤ 2048) × (length pitch.now ≡ length db.now) × (length voiced.now ≡ length db.now) },
 }
 
 // The marks of a region: nuclei, then extra candidates and boundaries around them.
@@ -131,8 +118,7 @@ fn mark_region(
     edges: &mut [u32],
     bounds: &mut [u32],
 ) -> Marked
-    requires db_len_bound { (length t.db.now ≤ 2048) × (length t.pitch.now ≡ length t.db.now) × (length t.voiced.now ≡ length t.db.now)
-        × (region.start ≤ region.end) × (region.end ≤ length t.db.now) }
+    requires inside { (region.start ≤ region.end) × (region.end ≤ length t.db.now) }
     requires room { Room (length t.db.now)
         (lists_of frames.old strengths.old xframes.old xstrengths.old edges.old bounds.old) }
     ensures { MarkCall
@@ -178,7 +164,6 @@ fn mark_take(
     edges: &mut [u32],
     bounds: &mut [u32],
 ) -> Marked
-    requires db_len_bound { (length t.db.now ≤ 2048) × (length t.pitch.now ≡ length t.db.now) × (length t.voiced.now ≡ length t.db.now) }
     requires room { Room (length t.db.now)
         (lists_of frames.old strengths.old xframes.old xstrengths.old edges.old bounds.old) }
     ensures { MarkCall (reading_with t.entry.db.now t.entry.pitch.now t.entry.voiced.now t.entry.sonority.now p)

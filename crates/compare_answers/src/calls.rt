@@ -94,7 +94,7 @@ pub fn nuclei(input: &[u8], floats: &[f32], out: &mut Out<'_>) {
 
 // The extra candidates of a region and their edges.
 pub fn extras(input: &[u8], floats: &[f32], out: &mut Out<'_>) {
-    let nuclei = words_in(input, 11usize.wrapping_add(total(input, 7, 10)), 1);
+    let nuclei = words_in(input, 11usize.wrapping_add(total(input, 7, 10)));
     let mut frames = [UNTOUCHED; ROOM];
     let mut strengths = [from_bits(UNTOUCHED); ROOM];
     let mut edges = [UNTOUCHED; ROOM];
@@ -127,7 +127,7 @@ where
     F: FnOnce(&[f32], &[f32], &[f32], usize, usize, &[u32], &mut [u32]) -> Result<usize, Refusal>,
     requires { F.IsAlwaysCallable entry }
 {
-    let nuclei = words_in(call, 7usize.wrapping_add(total(call, 3, 6)), 1);
+    let nuclei = words_in(call, 7usize.wrapping_add(total(call, 3, 6)));
     let mut list = [UNTOUCHED; ROOM];
     let list = lent(&mut list, call, 2);
     let found = entry(

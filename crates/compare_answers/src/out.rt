@@ -36,8 +36,8 @@ impl<'a> Out<'a> {
     }
 
     fn byte(&mut self, b: u8) {
-        if self.len < self.bytes.len() {
-            self.bytes[self.len] = b;
+        if let Some(place) = self.bytes.get_mut(self.len) {
+            *place = b;
         }
         self.len = self.len.wrapping_add(1);
     }

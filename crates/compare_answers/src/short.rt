@@ -6,43 +6,33 @@ use super::tables::{first, frames_from, samples_in};
 use arrayvec::ArrayVec;
 use floats::bits::{f64_to_bits, to_bits};
 use runs::voiced::Span;
-use smooth::extrema::Extremum;
+use smooth::extrema::{Extremum, Part};
 
 // What is written where two frames are none of the level's: no frame, and neither yes nor no.
 const NO_FRAME: u64 = 0xffff_ffff;
 
 const NO_ANSWER: u64 = 255;
 
-// The frame of the extremum from a to b, where these are frames.
-fn frame_of(kind: Extremum, s: &[f32], a: usize, b: usize) -> Option<usize> {
+// The part of a level between the two frames that an input begins with, where these are frames.
+fn part_of<'a>(s: &'a [f32], input: &[u8]) -> Option<Part<'a>> {
+    let a = size(input, 0);
+    let b = size(input, 1);
     if a <= b && b < s.len() {
-        Some(match kind {
-            Extremum::Max => smooth::extrema::argmax_middle(s, a, b),
-            Extremum::Min => smooth::extrema::argmin_middle(s, a, b),
-        })
+        Some(Part { s, a, b })
     } else {
         None
     }
 }
 
 pub fn middle(kind: Extremum, input: &[u8], floats: &[f32], out: &mut Out<'_>) {
-    let frame = frame_of(kind, frames_from(floats, 2), size(input, 0), size(input, 1));
-    out.number(4, frame.map_or(NO_FRAME, |x| x as u64));
-}
-
-// Whether the valley from a to b is shallow, where these are frames.
-fn shallow_of(s: &[f32], a: usize, b: usize, dip: f32) -> Option<bool> {
-    if a <= b && b < s.len() {
-        Some(smooth::extrema::shallow_valley(s, a, b, dip))
-    } else {
-        None
-    }
+    let part = part_of(frames_from(floats, 2), input);
+    out.number(4, part.map_or(NO_FRAME, |p| p.extremum_middle(kind) as u64));
 }
 
 pub fn shallow(input: &[u8], floats: &[f32], out: &mut Out<'_>) {
-    let level = frames_from(floats, 3);
-    let x = shallow_of(level, size(input, 0), size(input, 1), float(input, 2));
-    out.number(1, x.map_or(NO_ANSWER, u64::from));
+    let part = part_of(frames_from(floats, 3), input);
+    let dip = float(input, 2);
+    out.number(1, part.map_or(NO_ANSWER, |p| u64::from(p.is_shallow(dip))));
 }
 
 pub fn floor(floats: &[f32], out: &mut Out<'_>) {

@@ -28,16 +28,12 @@ pub fn lent<'a, T>(xs: &'a mut [T], input: &[u8], k: usize) -> &'a mut [T] {
 
 // The entries from one on.
 pub fn rest<T>(xs: &[T], at: usize) -> &[T] {
-    if at <= xs.len() { &xs[at..] } else { xs }
+    xs.get(at..).unwrap_or(xs)
 }
 
 // The n entries from one on.
 pub fn part<T>(xs: &[T], at: usize, n: usize) -> &[T] {
-    if at <= xs.len() && n <= xs.len() - at {
-        &xs[at..at + n]
-    } else {
-        xs
-    }
+    rest(xs, at).get(..n).unwrap_or(xs)
 }
 
 // Every field of an input as an f32.
@@ -72,13 +68,11 @@ pub fn track<'a>(floats: &'a [f32], input: &[u8], from: usize, base: usize, k: u
     )
 }
 
-// The fields from one on, each `step` after the last.
-pub fn words_in(input: &[u8], from: usize, step: usize) -> [u32; ROOM] {
+// The fields from one on.
+pub fn words_in(input: &[u8], from: usize) -> [u32; ROOM] {
     let mut table = [UNTOUCHED; ROOM];
-    let mut at = from;
-    for x in table.iter_mut() {
-        *x = word(input, at);
-        at = at.wrapping_add(step);
+    for (i, x) in table.iter_mut().enumerate() {
+        *x = word(input, from.wrapping_add(i));
     }
     table
 }

@@ -25,7 +25,8 @@ pub fn speech(input: &[u8], floats: &[f32], out: &mut Out<'_>) {
 
 pub fn extrema(kind: Extremum, input: &[u8], floats: &[f32], out: &mut Out<'_>) {
     let s = frames_from(floats, 2);
-    let found = smooth::extrema::local_extrema(s, size(input, 0), size(input, 1), kind);
+    let mut found: ArrayVec<u32, 2048> = ArrayVec::new();
+    smooth::extrema::local_extrema(s, size(input, 0), size(input, 1), kind, &mut found);
     out.number(4, found.len() as u64);
     out.column(&found, s.len(), |frame| frame);
 }

@@ -14,6 +14,7 @@ use floats::rounding::round_to_f32;
 use floats::total::{from_total_key, total_key};
 use lists::candidates::{frame_of, key_of};
 use lists::sort::sort;
+use nsdf::sums::Window;
 use powers::pitch::{Octave, breaks_any, is_pitch, octave_of, within_step};
 
 // The samples of a window, and the lags at which its periodicity is asked for: from 1 on.
@@ -24,7 +25,8 @@ const LAGS: usize = 230;
 // What is written where an input is no pitch, so that the answer differs from any of the reference's.
 const NO_PITCH: u64 = 255;
 
-// What is asked of each entry.
+// What is asked of each entry. An enum and no closures: how an entry is read, whether all are sorted and how one is shown go
+// together, and the names are the judge's.
 #[derive(Clone, Copy)]
 pub enum Entry {
     Round,
@@ -46,20 +48,12 @@ fn is_estimate(p: f64) -> bool
 
 // Whether two estimates are within a step, where both are estimates.
 fn step_of(p: f64, q: f64) -> Option<bool> {
-    if is_estimate(p) && is_estimate(q) {
-        Some(within_step(p, q))
-    } else {
-        None
-    }
+    (is_estimate(p) && is_estimate(q)).then(|| within_step(p, q))
 }
 
 // The repair of a frame beside two others, where all three have a pitch.
 fn repair_of(f: f32, a: f32, b: f32) -> Option<Octave> {
-    if is_pitch(f) && is_pitch(a) && is_pitch(b) {
-        Some(octave_of(f, a, b))
-    } else {
-        None
-    }
+    (is_pitch(f) && is_pitch(a) && is_pitch(b)).then(|| octave_of(f, a, b))
 }
 
 // The number that stands for a repair. No `From`: neither type is this crate's.
@@ -149,15 +143,19 @@ pub fn entries(entry: Entry, input: &[u8], out: &mut Out<'_>) {
     }
 }
 
+// The window that some samples are, where they are no more than one has.
+fn window_of(samples: &[i16]) -> Option<Window<'_>> {
+    if samples.len() <= WINDOW {
+        Some(Window { samples })
+    } else {
+        None
+    }
+}
+
 pub fn periodicity(input: &[u8], out: &mut Out<'_>) {
     let samples = samples_in(input, WINDOW);
-    let window = first(&samples, input.len() / 2);
+    let window = window_of(first(&samples, input.len() / 2));
     for lag in 1..LAGS + 1 {
-        let x = if window.len() <= 512 {
-            f64_to_bits(nsdf::periodicity::nsdf(window, lag))
-        } else {
-            0
-        };
-        out.number(8, x);
+        out.number(8, window.map_or(0, |w| f64_to_bits(w.nsdf(lag))));
     }
 }

@@ -1,12 +1,14 @@
 // What the judge links: every answer under one C name, and each stage by itself to be timed. A slice is a pointer and a
 // length there. Whoever calls a stage keeps to its `requires`; the chain has none. Settings are
 // the defaults.
+// That a track has at most 2,048 frames is a `requires` and no type: C lends a pointer and a length.
 #![tactic(auto)]
 
 ghost use Rattle.std.specs.Prelude.{◌≡◌, ◌+◌, ◌≤◌, length};
 ghost use Rattle.lists.specs.Sorted.{StrictlyRises};
 ghost use Rattle.repair.specs.Repair.{Pitches};
 
+use arrayvec::ArrayVec;
 use chain::Marks;
 use region::default_settings;
 use runs::voiced::Span;
@@ -48,8 +50,11 @@ fn put_list(list: &[u32], out: &mut [u32]) -> usize {
 pub extern "C" fn judge_extrema(s: &[f32], out: &mut [u32]) -> usize
     requires { (length s.now ≤ length out.old) × (length s.now ≤ 2048) }
 {
-    put_list(&local_extrema(s, 0, s.len(), Extremum::Max), out);
-    put_list(&local_extrema(s, 0, s.len(), Extremum::Min), out)
+    let mut found: ArrayVec<u32, 2048> = ArrayVec::new();
+    local_extrema(s, 0, s.len(), Extremum::Max, &mut found);
+    put_list(&found, out);
+    local_extrema(s, 0, s.len(), Extremum::Min, &mut found);
+    put_list(&found, out)
 }
 
 // Writes the first and last frames of runs to two lists, and returns how many they are.

@@ -2,17 +2,17 @@
 // leaves every lent track and list as it was. For C callers each answer stands in a record of numbers.
 // Tracks, lists and ends of a region are parameters of their own, as the C interface gives them.
 ghost use Rattle.admit.specs.Numbers.{number_of};
-ghost use Rattle.entries.specs.Stages.{answer_of, spanned, spanned_of, counted_of, MarksCall, RegionCall, RepairCall, RecoverCall, NucleiCall, ExtrasCall, BoundariesWithCall, BoundariesCall};
+ghost use Rattle.entries.specs.Stages.{answer_of, spanned_of, counted_of, MarksCall, RegionCall, RepairCall, RecoverCall, NucleiCall, ExtrasCall, BoundariesWithCall, BoundariesCall};
 ghost use Rattle.std.specs.Prelude.{◌≡◌};
 
 use admit::numbers::Refusal;
 use admit::{
-    boundaries_refusal, boundaries_with_refusal, extras_refusal, nuclei_refusal, recovery_refusal,
-    region_refusal, repair_refusal, speech_refusal,
+    boundaries_with_refusal, extras_refusal, nuclei_refusal, recovery_refusal, region_refusal,
+    repair_refusal, speech_refusal,
 };
 use extra::{Counts, extra_candidates};
 use recover::recover_pitch;
-use region::{Region, Settings, speech_frames, speech_region};
+use region::{Region, Settings, default_settings, speech_frames, speech_region};
 use repair::repair_octaves;
 
 // For C: the refusal number, 0 for none, and how many entries were written.
@@ -57,34 +57,30 @@ impl From<Result<usize, Refusal>> for Answer {
     }
 }
 
-// The record of a refusal's number, 0 for none, and a region.
-#[tactic(auto, unfolding(crate::specs::Stages::spanned))]
-fn with_ends(refusal: u32, found: Option<Region>) -> Spanned
-    ensures { result ≡ spanned refusal found }
-{
-    match found {
-        None => Spanned {
-            refusal,
-            found: false,
-            start: 0,
-            end: 0,
-        },
-        Some(r) => Spanned {
-            refusal,
-            found: true,
-            start: r.start,
-            end: r.end,
-        },
-    }
-}
+const NO_REGION: Spanned = Spanned {
+    refusal: 0,
+    found: false,
+    start: 0,
+    end: 0,
+};
 
 impl From<Result<Option<Region>, Refusal>> for Spanned {
     ghost from_gives = { λ r a. a ≡ spanned_of r };
 
+    #[tactic(auto, unfolding(crate::specs::Stages::spanned))]
     fn from(r: Result<Option<Region>, Refusal>) -> Spanned {
         match r {
-            Ok(found) => with_ends(0, found),
-            Err(refusal) => with_ends(u32::from(refusal), None),
+            Ok(Some(region)) => Spanned {
+                found: true,
+                start: region.start,
+                end: region.end,
+                ..NO_REGION
+            },
+            Ok(None) => NO_REGION,
+            Err(refusal) => Spanned {
+                refusal: u32::from(refusal),
+                ..NO_REGION
+            },
         }
     }
 }
@@ -232,6 +228,14 @@ pub fn boundaries(
     ensures { BoundariesCall db.now pitch.now voiced.now start end nuclei.now
         out.old out.new (answer_of result) }
 {
-    boundaries_refusal(db, pitch, voiced, start, end, nuclei, out.len())?;
-    Ok(boundaries::boundaries(db, pitch, voiced, start, end, nuclei, out))
+    boundaries_with(
+        db,
+        pitch,
+        voiced,
+        start,
+        end,
+        nuclei,
+        default_settings(),
+        out,
+    )
 }

@@ -1,13 +1,15 @@
--- Unpitched peaks: they are speech by the level, have no pitch within 2 frames, and rise strictly. Assumes nothing.
+-- Unpitched peaks: they are speech by the level, have no pitch within 2 frames, and rise strictly; and what the library keeps of a list. Assumes nothing.
 use Prim.Native.Nat.{ℕ, ◌<◌, min}
 use native.Mathlib.Omega.{arith}
-use mathlib.Core.Path.{◌≡◌}
-use mathlib.Core.Bool.{true, false, ◌&&◌, not}
-use mathlib.Core.List.{List}
+use mathlib.Core.Path.{◌≡◌, refl, ap}
+use mathlib.Core.Bool.{Bool, true, false, cond, ◌&&◌, not}
+use mathlib.Core.List.{List, [], ◌∷◌}
 use lib.ListN.{length}
 use lib.Dec.{leb, ltb}
 use lib.Ieee.{Float, le}
 use borrow.Author.Tests.{ltb-true, not-true}
+use Rattle.std.specs.List.{filter as kept_by}
+use Rattle.lists.specs.Results.{cons_if, filter}
 use Rattle.lists.specs.By.{Each}
 use Rattle.lists.specs.Sorted.{StrictlyRises}
 use Rattle.lists.proofs.Tests.{and_cases}
@@ -40,3 +42,13 @@ module _ (s pitch son : List Float) (b : Bounds) where
   peaks_rise =
       let ps = local_extrema s b.start b.end Max in
       filter_rises (unpitched s pitch son b) 0 (length s) ps (strict_from 0 b.start (length s) ps (omega arith) (strict_to b.start (min b.end (length s)) (length s) ps (omega arith) (extrema_rise s b.start b.end Max)))
+
+-- the library's word for the entries that pass, and ours
+pub filter_same : {A : Type 0} (t : A → Bool) (xs : List A) → kept_by t xs ≡ filter t xs
+unfolding filter
+filter_same t [] = refl
+filter_same {A = A} t (x ∷ xs) = go (t x) (filter_same t xs)
+  where
+    go : (b : Bool) → kept_by t xs ≡ filter t xs → cond b (x ∷ kept_by t xs) (kept_by t xs) ≡ cons_if b x (filter t xs)
+    go true e = ap (λ (ys : List A). x ∷ ys) e
+    go false e = e

@@ -1,22 +1,23 @@
 -- The parts' results together are the whole's, and what a part asks for holds of the results before it. Assumes nothing.
 use Prim.Native.Nat.{ℕ, ◌<◌, ◌≤◌}
-use mathlib.Core.Path.{◌≡◌, sym, subst}
+use mathlib.Core.Path.{◌≡◌, sym, ap, ◌∙◌}
 use mathlib.Core.List.{List, [], ◌++◌, map}
-use lib.ListN.{length, take}
+use lib.ListN.{length, get_or, length-map}
+use Rattle.std.proofs.lemmas.List.{get_or-take}
+use native.Mathlib.Omega.{arith}
 use lib.Ieee.{Float}
 use borrow.Author.Tests.{eq-eqb, ne_eqb}
 use Rattle.lists.specs.Results.{Listed}
 use Rattle.lists.specs.Sorted.{StrictlyRises}
 use Rattle.lists.specs.Marks.{member, in_order}
 use Rattle.lists.proofs.Fill.{listed_take}
-use Rattle.lists.specs.By.{Each}
-use Rattle.lists.proofs.Members.{strict_below, in_order_is, in_order_few}
+use Rattle.lists.proofs.Members.{strict_get, in_order_is, in_order_few}
 use Rattle.smooth.specs.Level.{levels}
 use Rattle.region.specs.Percentile.{floor_of}
 use Rattle.region.specs.Speech.{bounds_over}
 use Rattle.region.specs.declared.Settings.{Settings}
 use Rattle.std.specs.Prelude.{None, Some}
-use Rattle.nuclei.specs.Nuclei.{nucleus_at}
+use Rattle.nuclei.specs.Nuclei.{nucleus_at, strengths_of}
 use Rattle.nuclei.proofs.Merge.{merged_rises}
 use Rattle.nuclei.proofs.Whole.{listed_nothing}
 use Rattle.extra.specs.Merging.{one_syllable, survivor, anchors}
@@ -25,12 +26,15 @@ use Rattle.extra.specs.Extra.{ExtrasListed, extra_frames, extra_edges, extras_of
 use Rattle.extra.proofs.Anchoring.{survivor_picks}
 
 -- ---- frames that are written in order
-module _ (cs : List ℕ) (n : ℕ) {old new : List ℕ} {r : ℕ} (l : Listed (in_order cs n) old new r) where
-  pub ordered_few : length (take r new) ≤ n
-  ordered_few = subst (λ (xs : List ℕ). length xs ≤ n) (sym (listed_take l)) (in_order_few cs n)
+pub strengths_few : (s : List Float) (x : Float) (cs : List ℕ) (n : ℕ) → length (strengths_of (map (nucleus_at s x) (in_order cs n))) ≤ n
+strengths_few s x cs n = simp length-map (in_order_few cs n)
 
-  pub ordered_below : Each (λ x. x < n) (take r new)
-  ordered_below = subst (Each (λ x. x < n)) (sym (listed_take l)) (strict_below 0 n (in_order cs n) (in_order_is cs n).rises)
+module _ (cs : List ℕ) (n : ℕ) {old new : List ℕ} {r : ℕ} (l : Listed (in_order cs n) old new r) (i : ℕ) (h : i < r) where
+  pub ordered_at : get_or new i 0 ≡ get_or (in_order cs n) i 0
+  ordered_at = sym (get_or-take r new i 0 h) ∙ ap (λ (xs : List ℕ). get_or xs i 0) (listed_take l)
+
+  pub ordered_in : get_or new i 0 < n
+  ordered_in = rw ordered_at (strict_get 0 n (in_order cs n) i (omega (arith, l.count)) (in_order_is cs n).rises)
 
 -- ---- the kept anchors
 pub anchors_rise : (s : List Float) (p : Settings) (nuclei peaks : List ℕ) → StrictlyRises 0 (length s) (anchors s p nuclei peaks)

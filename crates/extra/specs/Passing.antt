@@ -1,13 +1,20 @@
--- Scaffolding of the code's loops: the walk over the kept frames beside that over the runs. Definitions only.
-use Rattle.std.specs.Prelude.{ℕ, ◌+◌, ◌≤◌, ◌<◌, List, length, get_or, take}
-use Rattle.lists.specs.By.{Each}
+-- Scaffolding of the code's loops: what is left of the kept frames beside the runs. Definitions only.
+use Rattle.std.specs.Prelude.{ℕ, ◌+◌, ◌≤◌, ◌≡◌, List, [], ◌∷◌}
+use Rattle.lists.specs.Sorted.{StrictlyRises}
+use Rattle.runs.specs.declared.voiced.Span.{Span}
+use Rattle.extra.specs.Seconds.{held_by}
 
--- the first q of the kept frames lie more than 2 before frame a
-pub record Passed (kept : List ℕ) (a q : ℕ) : Type 0 where
-  pub within : q ≤ length kept
-  pub earlier : Each (λ f. f + 2 < a) (take q kept)
+-- the first of the frames, so each, does not lie more than 2 before frame a
+abbrev pub Onward : ℕ → List ℕ → Type 0
+Onward a [] = Unit
+Onward a (f ∷ fs) = a ≤ f + 2
 
--- and the next, if there is one, does not
-pub record Reached (kept : List ℕ) (a q : ℕ) : Type 0 where
-  pub passed : Passed kept a q
-  pub here : q < length kept → a ≤ get_or kept q 0 + 2
+-- what is left of the kept frames serves every run from frame a on
+pub record Serves (kept : List ℕ) (a : ℕ) (rest : List ℕ) : Type 0 where
+  pub rises : StrictlyRises 0 2048 rest
+  pub same : (r : Span) → a ≤ r.first → held_by kept r ≡ held_by rest r
+
+-- and begins there
+pub record LeftFrom (kept : List ℕ) (a : ℕ) (rest : List ℕ) : Type 0 where
+  pub serves : Serves kept a rest
+  pub onward : Onward a rest

@@ -7,7 +7,7 @@ use arrayvec::ArrayVec;
 use lists::marks::marks;
 use nuclei::merging::{louder, push_merging};
 use region::Settings;
-use smooth::extrema::shallow_valley;
+use smooth::extrema::Part;
 
 // Whether two anchors, the earlier first, are one syllable: closer than the gap, or with no valley between them. Two
 // nuclei are not, since both were kept as nuclei. The unpitched peaks are marked.
@@ -16,7 +16,12 @@ fn one_syllable(s: &[f32], p: Settings, is_peak: &[bool; 2048], prev: u32, x: u3
     ensures { result ≡ one_syllable s.now p (mark_at is_peak.now) prev x }
 {
     if is_peak[prev as usize] || is_peak[x as usize] {
-        return x - prev < p.gap || shallow_valley(s, prev as usize, x as usize, p.dip);
+        let valley = Part {
+            s,
+            a: prev as usize,
+            b: x as usize,
+        };
+        return x - prev < p.gap || valley.is_shallow(p.dip);
     }
     false
 }
@@ -37,23 +42,29 @@ fn survivor(s: &[f32], is_peak: &[bool; 2048], prev: u32, x: u32) -> u32
     }
 }
 
-// What is left of the nuclei and the unpitched peaks, in order, when those that are one syllable are merged.
-pub fn merged(s: &[f32], p: Settings, nuclei: &[u32], peaks: &[u32]) -> ArrayVec<u32, 2048>
-    requires { (length s.now ≤ 2048) × StrictlyRises 0 (length s.now) peaks.now }
-    ensures { result.items ≡ anchors s.now p nuclei.now peaks.now }
+// Leaves in a list what is left of the nuclei and the unpitched peaks, in order, when those that are one syllable are
+// merged, and nothing else. The list is lent, since one that is returned lies on the stack twice more.
+pub fn merged<const N: usize>(
+    s: &[f32],
+    p: Settings,
+    nuclei: &[u32],
+    peaks: &[u32],
+    kept: &mut ArrayVec<u32, N>,
+)
+    requires { (length s.now ≤ 2048) × StrictlyRises 0 (length s.now) peaks.now × (length s.now ≤ N) }
+    ensures { kept.new.items ≡ anchors s.now p nuclei.now peaks.now }
 {
     let is_nucleus = marks(nuclei);
     let is_peak = marks(peaks);
-    let mut kept = ArrayVec::new();
+    kept.clear();
     for i in 0..s.len() {
         if is_nucleus[i] || is_peak[i] {
             push_merging(
                 &|prev, x| one_syllable(s, p, &is_peak, prev, x),
                 &|prev, x| survivor(s, &is_peak, prev, x),
-                &mut kept,
+                kept,
                 i as u32,
             );
         }
     }
-    kept
 }

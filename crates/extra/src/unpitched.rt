@@ -28,17 +28,16 @@ fn unpitched(r: RegionLevel<'_>, pitch: &[f32], son: &[f32], at: u32) -> bool
     r.is_speech(at) && (!pitch_near(pitch, at) && vowel_like(son, at))
 }
 
-// The unpitched peaks of the level in the region, in order.
-pub fn unpitched_peaks(r: RegionLevel<'_>, pitch: &[f32], son: &[f32]) -> ArrayVec<u32, 2048>
-    requires { (length r.level.now ≤ 2048) × (length r.level.now ≤ length son.now) }
-    ensures { result.items ≡ unpitched_peaks r.entry.level.now pitch.now son.now r.entry.bounds }
+// Leaves in a list the unpitched peaks of the level in the region, in order, and nothing else.
+pub fn unpitched_peaks<const N: usize>(
+    r: RegionLevel<'_>,
+    pitch: &[f32],
+    son: &[f32],
+    found: &mut ArrayVec<u32, N>,
+)
+    requires { (length r.level.now ≤ 2048) × (length r.level.now ≤ length son.now) × (length r.level.now ≤ N) }
+    ensures { found.new.items ≡ unpitched_peaks r.entry.level.now pitch.now son.now r.entry.bounds }
 {
-    let mut found = ArrayVec::new();
-    let peaks = local_extrema(r.level, r.bounds.start, r.bounds.end, Extremum::Max);
-    for x in peaks.as_slice() {
-        if unpitched(r, pitch, son, *x) {
-            found.push(*x);
-        }
-    }
-    found
+    local_extrema(r.level, r.bounds.start, r.bounds.end, Extremum::Max, found);
+    found.retain(|x| unpitched(r, pitch, son, *x));
 }

@@ -24,7 +24,8 @@ pub fn total_key(x: f32) -> u32
     place(f32_to_bits_with_nan(x))
 }
 
-// Where x stands if it is finite, else a place past those of all finite values.
+// Where x stands if it is finite, else a place past those of all finite values. A number and no `Option`: keys are sorted and
+// counted as whole numbers, and those that are not finite come last.
 pub fn finite_key(x: f32) -> u32
     ensures { result ≡ finite_key x }
 {

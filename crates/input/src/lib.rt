@@ -16,7 +16,7 @@ ghost use Rattle.input.specs.Reading.{Brought, Stopped, StoppedIn};
 use std::io;
 use std::io::Read;
 
-// Where reading stopped: at the end of so many bytes, or with more bytes than were asked for.
+// Where reading stopped: at the end of so many bytes, or with more bytes than were asked for. Neither is an error, so no `Result`.
 #[derive(Clone, Copy)]
 pub enum Input {
     Whole(usize),

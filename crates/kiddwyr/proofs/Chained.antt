@@ -2,7 +2,7 @@
 use mathlib.Core.Path.{◌≡◌, refl, sym, ◌∙◌}
 use mathlib.Core.List.{List}
 use Prim.Native.Nat.{ℕ}
-use lib.ListN.{length}
+use lib.ListN.{length, take}
 use lib.Ieee.{Float}
 use Rattle.lists.specs.Results.{overlay}
 use Rattle.chain.specs.Chain as plain
@@ -25,7 +25,7 @@ left_same a p n x e b = cc
 
 pub recorded : (t : Take) (l : Lists) {new : plain.Lists} {r : Marks} {pitch : List Float} {nuclei extras : List Nucleus}
     → ChainWithin t (length l.nuclei) (length l.extras) l.edges l.bounds new pitch r
-    → Filled new.frames new.strengths r.nuclei l.nuclei nuclei → Filled new.xframes new.xstrengths r.extras l.extras extras
+    → Filled (take r.nuclei new.frames) (take r.nuclei new.strengths) l.nuclei nuclei → Filled (take r.extras new.xframes) (take r.extras new.xstrengths) l.extras extras
     → ChainCall t l (lists_of nuclei extras new.edges new.bounds) pitch r
 unfolding chain_of
 recorded t l w n x =

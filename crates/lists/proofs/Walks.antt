@@ -1,10 +1,10 @@
--- The first frame that passes a test, the last one, whether one of a stretch does, and whether all do: what each says, and the laws of the loop that looks for
--- it. Assumes nothing.
+-- The first frame that passes a test, the last one, whether one of a stretch does, and whether all do: what each says, and for the first and the last the
+-- laws of the loop that looks for it. Assumes nothing.
 use Prim.Native.Nat.{ℕ, zero, suc, ◌+◌, ◌-◌, ◌≤◌, ◌<◌}
 use native.Mathlib.Nat.{eq-or-lt_of_le}
 use native.Mathlib.Omega.{arith}
 use mathlib.Core.Path.{◌≡◌, refl, sym, subst}
-use mathlib.Core.Bool.{Bool, true, false, ◌||◌, cond}
+use mathlib.Core.Bool.{Bool, true, false, cond}
 use mathlib.Core.Logic.{⊎_elim}
 use borrow.Author.Tests.{ltb-true, ltb-false}
 use lib.Dec.{ltb}
@@ -83,10 +83,6 @@ module _ (t : ℕ → Bool) (a b : ℕ) where
     pub seek_past : (k : ℕ) {j : ℕ} → j ≤ b → j ≡ first_frame t i k → Seeking j
     seek_past k h e = let f = first_is t i k in record { low = omega (arith, c.low, f.low); high = h; before = none_join t c.before (rw e f.before) }
 
--- a search up to a frame before which none passes finds that frame
-pub none_first : (t : ℕ → Bool) (i j : ℕ) → i ≤ j → NonePass t i j → first_frame t i (j - i) ≡ j
-none_first t i j h f = sym (seek_end t i j (record { low = h; high = omega arith; before = f }) (omega arith))
-
 -- ---- the last that passes, up to frame i
 pub record SeekingBack (t : ℕ → Bool) (i l : ℕ) : Type 0 where
   pub high : l ≤ i
@@ -131,29 +127,6 @@ some_at t a (suc k) j h i e =
     (λ l. or_right (t a) (some_frame t (a + 1) k) (some_at t (a + 1) k j (omega arith) (omega arith) e))
     (eq-or-lt_of_le h)
 
-some_step : (t : ℕ → Bool) (n i : ℕ) → i < n → some_frame t i (n - i) ≡ t i || some_frame t (i + 1) (n - (i + 1))
-unfolding some_frame
-some_step t n i h =
-    let e : n - i ≡ suc (n - (i + 1)) = omega arith in
-    rw e
-
--- it is up to the frames from i on, below n
-pub record Looking (t : ℕ → Bool) (n i : ℕ) (whole : Bool) : Type 0 where
-  pub same : some_frame t i (n - i) ≡ whole
-
-module _ {t : ℕ → Bool} {n i : ℕ} {whole : Bool} (k : Looking t n i whole) where
-  pub look_yes : i < n → t i ≡ true → true ≡ whole
-  look_yes h e = rw (some_step t n i h, e) at k.same
-
-  pub look_on : i < n → t i ≡ false → Looking t n (i + 1) whole
-  look_on h e = record { same = rw (some_step t n i h, e) at k.same }
-
-  pub look_end : n ≤ i → false ≡ whole
-  unfolding some_frame
-  look_end h =
-      let e : n - i ≡ 0 = omega arith in
-      rw e at k.same
-
 -- ---- whether all pass
 pub all_at : (t : ℕ → Bool) (a k j : ℕ) → all_frames t a k ≡ true → a ≤ j → j < a + k → t j ≡ true
 unfolding all_frames
@@ -161,16 +134,3 @@ all_at t a zero j e h i = absurd (omega arith)
 all_at t a (suc k) j e h i =
     let b = and_cases (t a) (all_frames t (a + 1) k) e in
     ⊎_elim (λ q. rw (← q) b.0) (λ l. all_at t (a + 1) k j b.1 (omega arith) (omega arith)) (eq-or-lt_of_le h)
-
-module _ (t : ℕ → Bool) (i b : ℕ) where
-  pub all_on : i < b → t i ≡ true → all_frames t (i + 1) (b - (i + 1)) ≡ all_frames t i (b - i)
-  unfolding all_frames
-  all_on h e = let d : b - i ≡ suc (b - (i + 1)) = omega arith in rw (d, e)
-
-  pub all_stop : i < b → t i ≡ false → false ≡ all_frames t i (b - i)
-  unfolding all_frames
-  all_stop h e = let d : b - i ≡ suc (b - (i + 1)) = omega arith in rw (d, e)
-
-  pub all_over : b ≤ i → true ≡ all_frames t i (b - i)
-  unfolding all_frames
-  all_over h = let d : b - i ≡ 0 = omega arith in rw d

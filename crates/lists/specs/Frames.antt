@@ -1,5 +1,5 @@
 -- What stands for each frame of a track, and which frames pass a test. Definitions only.
-use Rattle.std.specs.Prelude.{ℕ, zero, suc, ◌+◌, Bool, true, false, ◌&&◌, ◌||◌, cond, List, [], ◌∷◌, get_or, Float}
+use Rattle.std.specs.Prelude.{ℕ, zero, suc, ◌+◌, Bool, true, false, ◌&&◌, ◌||◌, cond, List, [], ◌∷◌, get_or, Float, Option, None, Some}
 use Rattle.std.specs.Float.{nan}
 
 -- the entry of frame i; past the end of the track a NaN
@@ -25,6 +25,11 @@ all_frames t i (suc k) = t i && all_frames t (i + 1) k
 unfoldable pub first_frame : (ℕ → Bool) → ℕ → ℕ → ℕ
 first_frame t i zero = i
 first_frame t i (suc k) = cond (t i) i (first_frame t (i + 1) k)
+
+-- the first of the k frames from i on that passes, where one does
+unfoldable pub first_in : (ℕ → Bool) → ℕ → ℕ → Option ℕ
+first_in t i zero = None
+first_in t i (suc k) = cond (t i) (Some i) (first_in t (i + 1) k)
 
 -- the last frame up to frame i that passes; frame 0 where none does
 unfoldable pub last_frame : (ℕ → Bool) → ℕ → ℕ

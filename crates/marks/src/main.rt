@@ -52,6 +52,7 @@ fn answer<R: Read>(reader: &mut R) -> io::Result<Page<LARGEST_LISTING>>
 {
     // Room for the largest take; the bytes past it are only counted.
     let mut file = [0u8; 34835];
+    // Two arms that read alike: that what was left unread has no say is a proof of its own, for the second alone.
     match read_file(reader, &mut file)? {
         Input::Whole(total) => Ok(tell(&file, total)),
         Input::Longer(total) => Ok(tell(&file, total)),

@@ -1,81 +1,69 @@
 -- The sums of products and of squares, one pair at a time, and that twice the products are at most the squares. Assumes nothing.
-use mathlib.Core.Path.{◌≡◌, refl, sym, ap, ◌∙◌}
-use Prim.Native.Nat.{ℕ, zero, suc, ◌+◌, ◌*◌, ◌^◌, ◌≤◌, ◌<◌, zero-le}
-use native.Mathlib.Nat.{add_assoc, add-zero, le_trans, zero-mul, mul-zero, mul-suc, suc-mul}
-use native.Mathlib.Numerals.{add-one}
+use mathlib.Core.Path.{◌≡◌, refl, sym, ap, ap₂, ◌∙◌}
+use Prim.Native.Nat.{ℕ, zero, suc, ◌+◌, ◌*◌, ◌^◌, ◌≤◌, zero-le}
+use native.Mathlib.Nat.{zero-mul, mul-zero, mul-suc, suc-mul}
 use native.Mathlib.Omega.{arith}
 use mathlib.Core.List.{List, [], ◌∷◌}
+use mathlib.Core.Logic.{◌⊎◌, inr, ⊎_elim}
 use lib.IntN.{ℤ, pos, nat_abs, ◌+ℤ◌, ◌*ℤ◌, +ℤ_assoc, +ℤ_idr}
-use lib.ListN.{length, get_or, drop, drop_of_length-le}
-use lib.Seq.{drop-cons}
+use lib.ListN.{length, drop, drop_of_length-le}
 use mir.Syntax.{w64}
 use mir.Val.{to_z, of_z}
 use mir.ValLaws.{to_z-of_z}
 use Rattle.nsdf.proofs.Whole.{small, abs_add, abs_mul}
 use Rattle.nsdf.specs.Nsdf.{cross, power, square, normalised, nsdf}
 
--- ---- nothing is left
+-- ---- of no pair
 
-cross_nil : (xs : List ℤ) → cross xs [] ≡ pos 0
+no_cross : (xs ys : List ℤ) → (xs ≡ []) ⊎ (ys ≡ []) → cross xs ys ≡ pos 0
 unfolding cross
-cross_nil [] = refl
-cross_nil (x ∷ xs) = refl
+no_cross [] ys h = refl
+no_cross (x ∷ xs) [] h = refl
+no_cross (x ∷ xs) (y ∷ ys) h = ⊎_elim (λ e. absurd (omega (arith, ap length e))) (λ e. absurd (omega (arith, ap length e))) h
 
-power_nil : (xs : List ℤ) → power xs [] ≡ 0
+pub no_power : (xs ys : List ℤ) → (xs ≡ []) ⊎ (ys ≡ []) → power xs ys ≡ 0
 unfolding power
-power_nil [] = refl
-power_nil (x ∷ xs) = refl
-
-pub cross_end : (w xs : List ℤ) (j : ℕ) → length w ≤ j → cross xs (drop j w) ≡ pos 0
-cross_end w xs j h = rw (drop_of_length-le w h) (cross_nil xs)
+no_power [] ys h = refl
+no_power (x ∷ xs) [] h = refl
+no_power (x ∷ xs) (y ∷ ys) h = ⊎_elim (λ e. absurd (omega (arith, ap length e))) (λ e. absurd (omega (arith, ap length e))) h
 
 pub power_end : (w xs : List ℤ) (j : ℕ) → length w ≤ j → power xs (drop j w) ≡ 0
-power_end w xs j h = rw (drop_of_length-le w h) (power_nil xs)
+power_end w xs j h = no_power xs (drop j w) (inr (drop_of_length-le w h))
 
--- ---- the next pair
-
-module _ (xs ys : List ℤ) (i : ℕ) (h : i < length xs) (k : i < length ys) where
-  cross_next : cross (drop i xs) (drop i ys) ≡ get_or xs i (pos 0) *ℤ get_or ys i (pos 0) +ℤ cross (drop (i + 1) xs) (drop (i + 1) ys)
-  unfolding cross
-  cross_next = rw (add-one, drop-cons xs i (pos 0) h, drop-cons ys i (pos 0) k)
-
-  power_next : power (drop i xs) (drop i ys) ≡ square (get_or xs i (pos 0)) + square (get_or ys i (pos 0)) + power (drop (i + 1) xs) (drop (i + 1) ys)
-  unfolding power
-  power_next = rw (add-one, drop-cons xs i (pos 0) h, drop-cons ys i (pos 0) k)
-
--- ---- the loops: what is added after i of the pairs, with what is still to come, is the whole
+-- ---- the loops: what is added so far, with the pairs of xs and ys, which are still to come, is the whole
 
 -- the products
-abbrev pub Crossed : List ℤ → List ℤ → ℤ → ℕ → Type 0
-Crossed xs ys sum i = (nat_abs sum ≤ 1073741824 * i) × (sum +ℤ cross (drop i xs) (drop i ys) ≡ cross xs ys)
+abbrev pub Crossed : ℤ → ℤ → List ℤ → List ℤ → Type 0
+Crossed whole sum xs ys = (nat_abs sum + 1073741824 * length xs ≤ 2 ^ 39) × (sum +ℤ cross xs ys ≡ whole)
 
 -- the squares
-abbrev pub Powered : List ℤ → List ℤ → ℕ → ℕ → Type 0
-Powered xs ys sum i = (sum ≤ 2147483648 * i) × (sum + power (drop i xs) (drop i ys) ≡ power xs ys)
+abbrev pub Powered : ℕ → ℕ → List ℤ → List ℤ → Type 0
+Powered whole sum xs ys = (sum + 2147483648 * length xs ≤ 2 ^ 40) × (sum + power xs ys ≡ whole)
 
--- one product more
-sum_small : (sum : ℤ) (i : ℕ) (r : ℤ) → nat_abs sum ≤ 1073741824 * i → nat_abs r ≤ 1073741824 → nat_abs (sum +ℤ r) ≤ 1073741824 * (i + 1)
-sum_small sum i r h k = le_trans (abs_add sum r) (omega arith)
-
-module _ (xs ys : List ℤ) (i : ℕ) (h : i < length xs) (k : i < length ys) where
-  pub cross_turn : (sum : ℤ) → Crossed xs ys sum i → (r : ℤ) → r ≡ get_or xs i (pos 0) *ℤ get_or ys i (pos 0) → nat_abs r ≤ 1073741824 → Crossed xs ys (sum +ℤ r) (i + 1)
-  cross_turn sum p r e r_small = (
-    sum_small sum i r p.0 r_small,
-    rw e (+ℤ_assoc sum _ _ ∙ ap (λ (z : ℤ). sum +ℤ z) (sym (cross_next xs ys i h k)) ∙ p.1),
+-- one pair more
+module _ {xs₀ ys₀ : List ℤ} (x : ℤ) (xs : List ℤ) (y : ℤ) (ys : List ℤ) (e : xs₀ ≡ x ∷ xs) (f : ys₀ ≡ y ∷ ys) where
+  pub cross_turn : (whole sum : ℤ) → Crossed whole sum xs₀ ys₀ → (r : ℤ) → r ≡ x *ℤ y → nat_abs r ≤ 1073741824 → Crossed whole (sum +ℤ r) xs ys
+  unfolding cross
+  cross_turn whole sum p r is small = (
+    omega (arith, p.0, ap length e, abs_add sum r),
+    +ℤ_assoc sum r (cross xs ys) ∙ ap (λ (z : ℤ). sum +ℤ (z +ℤ cross xs ys)) is ∙ ap (λ (z : ℤ). sum +ℤ z) (sym (ap₂ cross e f)) ∙ p.1,
   )
 
-  pub power_turn : (sum : ℕ) → Powered xs ys sum i → (s t : ℕ) → s ≡ square (get_or xs i (pos 0)) → s ≤ 1073741824 → t ≡ square (get_or ys i (pos 0)) → t ≤ 1073741824 → Powered xs ys (sum + (s + t)) (i + 1)
-  power_turn sum p s t e s-small f t-small = (
-    omega arith,
-    rw (e, f) (add_assoc sum _ _ ∙ ap (λ (n : ℕ). sum + n) (sym (power_next xs ys i h k)) ∙ p.1),
-  )
+  pub power_turn : (whole sum : ℕ) → Powered whole sum xs₀ ys₀ → (s t : ℕ) → s ≡ square x → s ≤ 1073741824 → t ≡ square y → t ≤ 1073741824 → Powered whole (sum + (s + t)) xs ys
+  unfolding power
+  power_turn whole sum p s t is s_small js t_small =
+      let q : power xs₀ ys₀ ≡ square x + square y + power xs ys = ap₂ power e f in (
+        omega (arith, p.0, ap length e),
+        omega (arith, p.1, q, is, js),
+      )
 
-module _ (xs ys : List ℤ) (i : ℕ) (done : length ys ≤ i) where
-  pub cross_last : (sum : ℤ) → Crossed xs ys sum i → sum ≡ cross xs ys
-  cross_last sum p = sym (+ℤ_idr sum) ∙ ap (λ (z : ℤ). sum +ℤ z) (sym (cross_end ys (drop i xs) i done)) ∙ p.1
+-- where no pair is left
+module _ (xs ys : List ℤ) (over : (xs ≡ []) ⊎ (ys ≡ [])) where
+  pub cross_last : (whole sum : ℤ) → Crossed whole sum xs ys → sum ≡ whole
+  cross_last whole sum p = sym (+ℤ_idr sum) ∙ ap (λ (z : ℤ). sum +ℤ z) (sym (no_cross xs ys over)) ∙ p.1
 
-  pub power_last : (sum : ℕ) → Powered xs ys sum i → sum ≡ power xs ys
-  power_last sum p = sym (add-zero sum) ∙ ap (λ (n : ℕ). sum + n) (sym (power_end ys (drop i xs) i done)) ∙ p.1
+  pub power_last : (whole sum : ℕ) → Powered whole sum xs ys → sum ≡ whole
+  power_last whole sum p = omega (arith, p.1, no_power xs ys over)
 
 -- ---- twice the products are at most the squares, whatever their signs
 

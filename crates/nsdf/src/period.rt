@@ -1,9 +1,9 @@
 // The pitch of a take around a sample, from the peaks of its periodicity.
-ghost use Rattle.std.specs.Prelude.{◌≡◌, ◌≤◌, ◌<◌, length};
+ghost use Rattle.std.specs.Prelude.{◌≡◌, ◌<◌};
 ghost use Rattle.lists.specs.By.{better};
 ghost use Rattle.nsdf.specs.Period.{measured, is_peak, above, best_peak, is_near, first_peak, clamped, shift, refined, estimated, period_hz};
 
-use crate::{periodicity, sums};
+use crate::sums::{Squares, Window};
 
 // Samples on either side of the centre of the window.
 const HALF_WINDOW: usize = 256;
@@ -18,14 +18,14 @@ const NEAR_BEST: f64 = 0.9;
 const SAMPLE_RATE: f64 = 16000.0;
 
 // The periodicity at lags 31 to 230; 0 at those that leave no pair.
-fn measured(window: &[i16]) -> [f64; 200]
-    requires { length window.now ≤ 512 }
-    ensures { result ≡ measured window.now }
+fn measured(window: Window<'_>) -> [f64; 200]
+    ensures { result ≡ measured window.entry.samples.now }
 {
-    let sq = sums::running_squares(window);
+    let squares = Squares::of(window);
+    // Written by index: of `array::from_fn` it is not known that the later calls of a closure are of what it held at first.
     let mut d = [0.0f64; 200];
     for k in 0..200 {
-        d[k] = periodicity::running_nsdf(window, &sq, FIRST_LAG + k);
+        d[k] = squares.nsdf(FIRST_LAG + k);
     }
     d
 }
@@ -45,7 +45,8 @@ fn larger(x: f64, y: f64) -> f64
     if x < y { y } else { x }
 }
 
-// The value of the highest peak: minus infinity where there is none.
+// The value of the highest peak: minus infinity where there is none. No `Option`: the search begins with it, and like any value
+// below 0.6 it gives no pitch, so a `None` would be a second way to say the same.
 fn best_peak(d: &[f64; 200]) -> f64
     ensures { result ≡ best_peak d.now }
 {
@@ -126,6 +127,8 @@ pub fn period_hz(samples: &[i16], centre: usize) -> Option<f64>
     let n = samples.len();
     let start = centre.saturating_sub(HALF_WINDOW).min(n);
     let end = centre.saturating_add(HALF_WINDOW).min(n);
-    let d = measured(&samples[start..end]);
-    estimated(&d)
+    let window = Window {
+        samples: &samples[start..end],
+    };
+    estimated(&measured(window))
 }

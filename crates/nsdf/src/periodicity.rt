@@ -1,9 +1,8 @@
 // How well a window of samples repeats at a lag.
-ghost use Rattle.std.specs.Prelude.{◌≡◌, ◌*◌, ◌≤◌, ◌^◌, nat_abs, length, drop};
+ghost use Rattle.std.specs.Prelude.{◌≡◌, ◌*◌, ◌≤◌, ◌^◌, nat_abs, drop};
 ghost use Rattle.nsdf.specs.Nsdf.{normalised, power, nsdf};
-ghost use Rattle.nsdf.specs.Running.{Running};
 
-use crate::sums;
+use crate::sums::{Squares, Window};
 
 // Twice the products over the squares: both are exact as f64, so the quotient is the only rounding. 0 where there is no energy.
 fn normalised(cross: i64, power: u64) -> f64
@@ -17,29 +16,29 @@ fn normalised(cross: i64, power: u64) -> f64
     (2 * cross) as f64 / power as f64
 }
 
-// The periodicity of a window at a lag, given the squares of its pairs: 0 where there is no pair or no energy.
-fn with_squares(window: &[i16], lag: usize, squares: u64) -> f64
-    requires window_len_bound { length window.now ≤ 512 }
-    requires squares_known { squares ≡ power window.now (drop lag window.now) }
-    requires squares_bound { squares ≤ 2 ^ 40 }
-    ensures { result ≡ nsdf window.now lag }
-{
-    normalised(sums::cross(window, lag), squares)
+impl Window<'_> {
+    // The periodicity at a lag, given the squares of its pairs: 0 where there is no pair or no energy.
+    fn with_squares(self, lag: usize, squares: u64) -> f64
+        requires squares_known { squares ≡ power self.samples.now (drop lag self.samples.now) }
+        requires squares_bound { squares ≤ 2 ^ 40 }
+        ensures { result ≡ nsdf self.entry.samples.now lag }
+    {
+        normalised(self.cross(lag), squares)
+    }
+
+    // The periodicity at a lag, each sum made for this lag alone.
+    pub fn nsdf(self, lag: usize) -> f64
+        ensures { result ≡ nsdf self.entry.samples.now lag }
+    {
+        self.with_squares(lag, self.power(lag))
+    }
 }
 
-// The periodicity of a window at a lag, each sum made for this lag alone.
-pub fn nsdf(window: &[i16], lag: usize) -> f64
-    requires { length window.now ≤ 512 }
-    ensures { result ≡ nsdf window.now lag }
-{
-    with_squares(window, lag, sums::power(window, lag))
-}
-
-// The same from the window's running squares, which serve every lag.
-pub fn running_nsdf(window: &[i16], sq: &[u64; 513], lag: usize) -> f64
-    requires window_len_bound { length window.now ≤ 512 }
-    requires running { Running window.now sq.now }
-    ensures { result ≡ nsdf window.now lag }
-{
-    with_squares(window, lag, sums::running_power(window, sq, lag))
+impl Squares<'_> {
+    // The window's periodicity at a lag.
+    pub fn nsdf(&self, lag: usize) -> f64
+        ensures { result ≡ nsdf self.now.window.samples.now lag }
+    {
+        self.window.with_squares(lag, self.power(lag))
+    }
 }

@@ -1,13 +1,14 @@
 -- The voiced peaks, each on its run; the runs that frames belong to; the tops of the others: each a step at a time, with how many there are. Assumes nothing.
 use Prim.Native.Nat.{ℕ, ◌+◌, ◌-◌, ◌<◌, ◌≤◌}
 use native.Mathlib.Omega.{arith}
-use mathlib.Core.Path.{◌≡◌, ap, ◌∙◌}
+use mathlib.Core.Path.{◌≡◌, sym, ap, ◌∙◌}
 use mathlib.Core.Bool.{Bool, true, false, not}
 use mathlib.Core.List.{List, [], ◌∷◌, ◌++◌, map}
 use lib.ListN.{length, get_or, drop, length-map, drop_of_length-le}
 use lib.Ieee.{Float}
 use borrow.Author.Tests.{lt-ltb, le-ltb}
-use Rattle.std.specs.Prelude.{is_some}
+use Rattle.std.specs.Prelude.{is_some, Option, MatchOption}
+use Rattle.std.specs.Bool.{then_some}
 use Rattle.lists.specs.Results.{cons_if, filter}
 use Rattle.lists.specs.Marks.{member}
 use Rattle.lists.proofs.Fill.{drop_step, map_cons_if, filter_step, filter_over, filter_le, length_cons_if}
@@ -110,13 +111,20 @@ module _ (s : List Float) (b : Bounds) (dip : Float) (r : Span) {lo hi : ℕ} (e
   no_part h = rw (le-ltb (part_first b r) (part_end b r) (omega arith))
 
   module _ (h : lo < hi) {top : ℕ} (q : top ≡ argmax_middle s lo (hi - 1)) where
-    pub top_is : top ≡ top_of s b r
+    top_is : top ≡ top_of s b r
     unfolding top_of
     top_is = q ∙ rw (e, f)
 
-    pub top_stands : {stands : Bool} → stands ≡ stands_alone s b dip top → stands ≡ has_top s b dip r
+    top_stands : {stands : Bool} → stands ≡ stands_alone s b dip top → stands ≡ has_top s b dip r
     unfolding has_top
     top_stands a = rw (lt-ltb (part_first b r) (part_end b r) (omega arith)) (a ∙ ap (stands_alone s b dip) top_is)
+
+    pub top_chosen : {stands : Bool} → stands ≡ stands_alone s b dip top → {found : Option ℕ} → found ≡ then_some stands top → MatchOption found (has_top s b dip r ≡ false) (λ t. (has_top s b dip r ≡ true) × (t ≡ top_of s b r))
+    top_chosen {stands} a e = rw e (go stands (sym (top_stands a)))
+      where
+        go : (x : Bool) → has_top s b dip r ≡ x → MatchOption (then_some x top) (has_top s b dip r ≡ false) (λ t. (has_top s b dip r ≡ true) × (t ≡ top_of s b r))
+        go true h = (h, top_is)
+        go false h = h
 
     pub top_within : b.end ≤ length s → top < length s
     top_within w = omega (arith, middle_within Max s lo (hi - 1) (omega arith) (omega arith), q)

@@ -37,27 +37,42 @@ pub fn candidates<const N: usize>(
         × (length r.level.now + length runs.now ≤ N) }
     ensures { found.new.items ≡ candidates r.entry.level.now pitch.now runs.now r.entry.bounds dip }
 {
-    let peaks = local_extrema(r.level, r.bounds.start, r.bounds.end, Extremum::Max);
+    let mut peaks = ArrayVec::<u32, 2048>::new();
+    local_extrema(
+        r.level,
+        r.bounds.start,
+        r.bounds.end,
+        Extremum::Max,
+        &mut peaks,
+    );
     found.clear();
     peaks_onto(r, pitch, runs, &peaks, found);
-    let held = runs_held::<2048>(runs, found);
+    let mut held = ArrayVec::<u32, 2048>::new();
+    runs_held(runs, found, &mut held);
     run_tops(r, dip, runs, &held, found);
 }
 
-// The frames of the nuclei, in order, given the level.
-fn nucleus_frames(r: RegionLevel<'_>, pitch: &[f32], p: Settings) -> ArrayVec<u32, 2048>
+// Leaves the frames of the nuclei, in order, in a list, and nothing else, given the level.
+fn nucleus_frames(r: RegionLevel<'_>, pitch: &[f32], p: Settings, kept: &mut ArrayVec<u32, 2048>)
     requires { (length r.level.now ≤ 2048) × (length pitch.now ≤ 2048) }
-    ensures { result.items ≡ nucleus_frames r.entry.level.now pitch.now (long_runs pitch.now)
+    ensures { kept.new.items ≡ nucleus_frames r.entry.level.now pitch.now (long_runs pitch.now)
         (syllable_runs pitch.now) r.entry.bounds p }
 {
     let runs = long_runs(pitch);
     // As many as the frames of a take and the runs that it can have.
     let mut cands = ArrayVec::<u32, 2560>::new();
     candidates(r, pitch, &runs, p.dip, &mut cands);
-    merged(r.level, &syllables_of::<MOST_RUNS>(pitch, &runs), p, &cands)
+    merged(
+        r.level,
+        &syllables_of::<MOST_RUNS>(pitch, &runs),
+        p,
+        &cands,
+        kept,
+    );
 }
 
 // Writes frames and their levels over the floor to the front of the two lists, and returns how many they are.
+// By index: `iter_mut` with `zip` takes 1.4 times as long.
 pub fn write_nuclei(
     s: &[f32],
     floor: f32,
@@ -103,11 +118,7 @@ pub fn nuclei(
         level,
         bounds: bounds_over(floor, p, start, end),
     };
-    write_nuclei(
-        level,
-        floor,
-        &nucleus_frames(r, pitch, p),
-        frames,
-        strengths,
-    )
+    let mut kept = ArrayVec::<u32, 2048>::new();
+    nucleus_frames(r, pitch, p, &mut kept);
+    write_nuclei(level, floor, &kept, frames, strengths)
 }

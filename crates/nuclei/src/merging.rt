@@ -11,7 +11,7 @@ use lists::marks::marks;
 use region::Settings;
 use runs::near::in_separate_runs;
 use runs::voiced::Span;
-use smooth::extrema::shallow_valley;
+use smooth::extrema::Part;
 
 // Whether two frames, the earlier first, are one nucleus: closer than the gap, or with no valley between them and not in
 // two different syllable runs.
@@ -22,7 +22,12 @@ fn one_nucleus(s: &[f32], syllables: &[Span], p: Settings, prev: u32, x: u32) ->
     if x - prev < p.gap {
         return true;
     }
-    shallow_valley(s, prev as usize, x as usize, p.dip) && !in_separate_runs(syllables, prev, x)
+    let valley = Part {
+        s,
+        a: prev as usize,
+        b: x as usize,
+    };
+    valley.is_shallow(p.dip) && !in_separate_runs(syllables, prev, x)
 }
 
 // The louder of two frames, the earlier on a tie.
@@ -40,13 +45,13 @@ pub fn louder(s: &[f32], prev: u32, x: u32) -> u32
 // Puts a frame that is later than the kept ones onto them. Where it is one with the last of them, that one goes, and
 // which of the two stays is put onto those before in its turn. What the closures answer of such pairs decides.
 // It calls itself and has no loop: a form that was asked for by name (docs/DECISIONS.md).
-pub fn push_merging<F: Fn(u32, u32) -> bool, G: Fn(u32, u32) -> u32>(
+pub fn push_merging<F: Fn(u32, u32) -> bool, G: Fn(u32, u32) -> u32, const N: usize>(
     are_one: &F,
     stays: &G,
-    kept: &mut ArrayVec<u32, 2048>,
+    kept: &mut ArrayVec<u32, N>,
     x: u32,
 )
-    requires room { array_vec_len kept.old < 2048 }
+    requires room { array_vec_len kept.old < N }
     requires later { Falls x (reverse kept.old.items) }
     requires asks { (a b : ℕ) → a < b → b ≤ x → F.pre are_one.now a b × G.pre stays.now a b }
     requires picks { (a b r : ℕ) → a < b → b ≤ x → G.post stays.now a b r → (r ≡ a) ⊎ (r ≡ b) }
@@ -66,23 +71,28 @@ pub fn push_merging<F: Fn(u32, u32) -> bool, G: Fn(u32, u32) -> u32>(
     }
 }
 
-// The candidates, in order, with those that are one nucleus merged.
-pub fn merged(s: &[f32], syllables: &[Span], p: Settings, cands: &[u32]) -> ArrayVec<u32, 2048>
-    requires { (length s.now ≤ 2048) × (length syllables.now ≤ 2048) }
-    ensures { result.items ≡ merged (one_nucleus s.now syllables.now p) (louder s.now)
+// Leaves the candidates, in order, with those that are one nucleus merged, in a list, and nothing else.
+pub fn merged<const N: usize>(
+    s: &[f32],
+    syllables: &[Span],
+    p: Settings,
+    cands: &[u32],
+    kept: &mut ArrayVec<u32, N>,
+)
+    requires { (length s.now ≤ 2048) × (length syllables.now ≤ 2048) × (length s.now ≤ N) }
+    ensures { kept.new.items ≡ merged (one_nucleus s.now syllables.now p) (louder s.now)
         (in_order cands.now (length s.now)) }
 {
     let is_cand = marks(cands);
-    let mut kept = ArrayVec::new();
+    kept.clear();
     for i in 0..s.len() {
         if is_cand[i] {
             push_merging(
                 &|prev, x| one_nucleus(s, syllables, p, prev, x),
                 &|prev, x| louder(s, prev, x),
-                &mut kept,
+                kept,
                 i as u32,
             );
         }
     }
-    kept
 }

@@ -9,6 +9,7 @@ use runs::near::{near_end, near_start, run_of};
 use runs::voiced::{Span, is_voiced};
 
 // The level of a track, and where in it syllables are looked for.
+// The limit of 2,048 frames is not in it: `is_speech` and `peaks_onto` take longer levels.
 #[derive(Clone, Copy)]
 pub struct RegionLevel<'a> {
     pub level: &'a [f32],
@@ -30,12 +31,7 @@ impl<'a> RegionLevel<'a> {
 pub fn pitch_near(pitch: &[f32], at: u32) -> bool
     ensures { result ≡ pitch_near pitch.now at }
 {
-    for i in near_start(at)..near_end(at, pitch.len()) {
-        if is_voiced(pitch[i]) {
-            return true;
-        }
-    }
-    false
+    (near_start(at)..near_end(at, pitch.len())).any(|i| is_voiced(pitch[i]))
 }
 
 // Whether a peak of the level is a candidate.

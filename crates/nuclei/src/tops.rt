@@ -8,20 +8,19 @@ use arrayvec::ArrayVec;
 use lists::marks::marks;
 use runs::near::{near_end, near_start, run_of};
 use runs::voiced::Span;
-use smooth::extrema::argmax_middle;
+use smooth::extrema::{Extremum, Part};
 
-// The numbers of the runs that frames belong to, a frame at a time.
-pub fn runs_held<const N: usize>(runs: &[Span], frames: &[u32]) -> ArrayVec<u32, N>
+// Leaves the numbers of the runs that frames belong to, a frame at a time, in a list, and nothing else.
+pub fn runs_held<const N: usize>(runs: &[Span], frames: &[u32], held: &mut ArrayVec<u32, N>)
     requires { (length runs.now ≤ 2048) × (length frames.now ≤ N) }
-    ensures { result.items ≡ runs_held runs.now frames.now }
+    ensures { held.new.items ≡ runs_held runs.now frames.now }
 {
-    let mut held = ArrayVec::new();
+    held.clear();
     for x in frames {
         if let Some(found) = run_of(runs, *x) {
             held.push(found.number);
         }
     }
-    held
 }
 
 // Whether some frame within 2 of frame at is more than dip louder.
@@ -30,12 +29,7 @@ fn on_flank(s: &[f32], dip: f32, at: u32) -> bool
     ensures { result ≡ on_flank s.now dip at }
 {
     let most = s[at as usize] + dip;
-    for i in near_start(at)..near_end(at, s.len()) {
-        if most < s[i] {
-            return true;
-        }
-    }
-    false
+    (near_start(at)..near_end(at, s.len())).any(|i| most < s[i])
 }
 
 // Whether the top of a run is a candidate.
@@ -59,12 +53,13 @@ fn top_of(r: RegionLevel<'_>, dip: f32, run: Span) -> Option<u32>
     if hi <= lo {
         return None;
     }
-    let top = argmax_middle(r.level, lo, hi - 1) as u32;
-    if stands_alone(r, dip, top) {
-        Some(top)
-    } else {
-        None
-    }
+    let part = Part {
+        s: r.level,
+        a: lo,
+        b: hi - 1,
+    };
+    let top = part.extremum_middle(Extremum::Max) as u32;
+    stands_alone(r, dip, top).then_some(top)
 }
 
 // Puts the tops of the runs whose number is not among the held ones after what there is.

@@ -3,7 +3,7 @@
 use Prim.Native.Nat.{ℕ, ◌+◌, ◌-◌, ◌*◌, ◌≤◌, ◌<◌}
 use native.Mathlib.Omega.{arith}
 use mathlib.Core.Path.{◌≡◌, refl, sym, ap, ap₂, ◌∙◌, subst}
-use mathlib.Core.Bool.{Bool, true, false, cond}
+use mathlib.Core.Bool.{Bool, true, false, cond, true≢false}
 use mathlib.Core.List.{List}
 use mathlib.Core.Logic.{◌⊎◌, inl, inr, ⊎_elim}
 use lib.Dec.{T, leb, lit<}
@@ -16,14 +16,16 @@ use Rattle.floats.specs.Plain.{zero_f}
 use Rattle.floats.specs.Narrow.{narrow}
 use Rattle.floats.proofs.Narrow.{narrow_value}
 use Rattle.lists.specs.By.{Each}
-use Rattle.lists.specs.Frames.{at}
+use Rattle.lists.specs.Frames.{at, some_frame}
+use Rattle.lists.proofs.Tests.{not_holds}
+use Rattle.lists.proofs.Walks.{some_at}
 use Rattle.lists.proofs.Entries.{each_at, at_each}
 use Rattle.lists.proofs.Parts.{get_d_any}
 use Rattle.lists.proofs.Tabulated.{length_tabulate, tabulate_at}
 use Rattle.std.specs.Prelude.{Option, None, Some}
 use Rattle.powers.specs.Pitch.{hz, Between, PitchOrNone}
 use Rattle.powers.proofs.Ranges.{enclosed}
-use Rattle.recover.specs.Estimates.{pitchless, estimates, InRange}
+use Rattle.recover.specs.Estimates.{pitchless, tried, estimates, InRange}
 use Rattle.recover.specs.Recovered.{start_of, end_of, island, stored, recovered_at, recovered_from, recovered_by}
 use Rattle.recover.proofs.Trying.{estimate_of, untried, estimate_has}
 use Rattle.recover.proofs.Walking.{start_alone, end_alone}
@@ -88,6 +90,14 @@ module _ (period : ℕ → Option Float) (p : List Float) (s v : List ℕ) where
   none_recovered none =
       ext_get_or nan (recovered_by period p s v) p length_recovered (λ i l.
       ⊎_elim (λ q. q) (λ b. absurd b) (kept_or_found i (subst (λ (n : ℕ). i < n) length_recovered l) (λ _. ⊥) (λ k x e. let q : None ≡ Some x = sym (none k) ∙ e in cc)))
+
+  -- and so where no frame is tried
+  pub untried_kept : some_frame (tried p s v) 0 (length p) ≡ false → recovered_by period p s v ≡ p
+  untried_kept none =
+      ext_get_or nan (recovered_by period p s v) p length_recovered (λ i l.
+      let h : i < length p = subst (λ (n : ℕ). i < n) length_recovered l in
+      let e : tried p s v i ≡ false = not_holds (tried p s v i) (λ q. true≢false (sym (some_at (tried p s v) 0 (length p) i (omega arith) (omega arith) q) ∙ none)) in
+      recovered_at_lem i h ∙ none_kept p (estimates period p s v) i (estimate_of period p s v i h ∙ ap (λ (b : Bool). cond b (period (160 * i)) None) e) ∙ given_at i h)
 
 -- ---- rounding to f32 keeps a pitch in the range, whose ends are f32 values
 rounded_range : (a c : ℕ) → 0 < c → 60 * c ≤ a * 1 → a * 1 ≤ 600 * c → Between 60 600 (round binary32 false a c)

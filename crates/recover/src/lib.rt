@@ -9,9 +9,11 @@ pub mod stretches;
 ghost use Rattle.std.specs.Prelude.{◌≡◌, ◌≤◌, length};
 ghost use Rattle.recover.specs.Recovered.{recovered};
 
-// Gives a pitch to every stretch of 3 frames or more that repeat well, are speech and vowel, and have no pitch near; other frames
-// keep theirs. An empty track stays; without samples nothing is recovered.
-pub fn recover_pitch(pitch: &mut [f32], samples: &[i16], speech: &[u8], vowel: &[u8])
+use estimates::{Marked, estimates};
+use stretches::recover_stretches;
+
+// The recovery of a track in which some frame is tried.
+fn recover_tried(pitch: &mut [f32], samples: &[i16], speech: &[u8], vowel: &[u8])
     requires { length pitch.old ≤ 2048 }
     ensures { pitch.new ≡ recovered pitch.old samples.now speech.now
         vowel.now }
@@ -20,8 +22,31 @@ pub fn recover_pitch(pitch: &mut [f32], samples: &[i16], speech: &[u8], vowel: &
     let mut given = [0.0f32; 2048];
     let given = &mut given[..pitch.len()];
     given.copy_from_slice(pitch);
+    let track = Marked {
+        pitch: given,
+        speech,
+        vowel,
+    };
     let mut found = [None; 2048];
     let found = &mut found[..pitch.len()];
-    estimates::estimates(given, samples, speech, vowel, found);
-    stretches::recover_stretches(found, given, pitch);
+    estimates(track, samples, found);
+    recover_stretches(found, given, pitch);
+}
+
+// Gives a pitch to every stretch of 3 frames or more that repeat well, are speech and vowel, and have no pitch near; other frames
+// keep theirs. An empty track stays; without samples nothing is recovered.
+pub fn recover_pitch(pitch: &mut [f32], samples: &[i16], speech: &[u8], vowel: &[u8])
+    requires { length pitch.old ≤ 2048 }
+    ensures { pitch.new ≡ recovered pitch.old samples.now speech.now
+        vowel.now }
+{
+    let track = Marked {
+        pitch,
+        speech,
+        vowel,
+    };
+    // Where none is, the tables are not made.
+    if track.has_tried() {
+        recover_tried(pitch, samples, speech, vowel);
+    }
 }

@@ -1,19 +1,22 @@
 -- The frames that pass a test, walked from either end: the first and the last. Assumes nothing.
-use Rattle.std.proofs.Common.{◌≡◌, ℕ, ◌+◌, ◌-◌, ◌<◌, Bool, true, false, List, [], ◌∷◌, ◌++◌, get_or, refl, ap, ◌∙◌, append-nil, zero-add, arith}
+use Rattle.std.proofs.Common.{◌≡◌, ℕ, ◌+◌, ◌-◌, ◌<◌, Bool, true, false, List, [], ◌∷◌, ◌++◌, get_or, refl, ap, ◌∙◌, append-nil, sym, zero-add, arith}
+use Rattle.std.specs.Prelude.{Option, None, Some, MatchOption}
+use Rattle.lists.specs.Frames.{first_in}
 use Rattle.lists.specs.Results.{cons_if, keep}
 use Rattle.lists.proofs.Fill.{keep_step, keep_split}
+use Rattle.lists.proofs.Firsts.{first_some, keep_some, keep_none}
 use Rattle.region.specs.Speech.{last_of}
 
 -- ---- from the front
 pub keep_all : (t : ℕ → Bool) (n : ℕ) → keep t 0 (n - 0) ≡ keep t 0 n
 keep_all t n = ap (keep t 0) (omega arith)
 
-module _ (t : ℕ → Bool) (n i : ℕ) where
-  pub first_here : i < n → t i ≡ true → get_or (keep t i (n - i)) 0 0 ≡ i
-  first_here h e = rw (keep_step t i n h, e)
-
-  pub first_later : i < n → t i ≡ false → keep t i (n - i) ≡ keep t (i + 1) (n - (i + 1))
-  first_later h e = keep_step t i n h ∙ rw e
+-- what a search from the front finds is the first of the frames that are kept
+pub first_told : (t : ℕ → Bool) (n : ℕ) {r : Option ℕ} → r ≡ first_in t 0 (n - 0) → MatchOption r (keep t 0 n ≡ []) (λ i. (i ≡ get_or (keep t 0 n) 0 0) × (i < n))
+first_told t n {r = None} e = sym (keep_all t n) ∙ keep_none t 0 n (sym e)
+first_told t n {r = Some i} e =
+    let f = first_some t 0 n (sym e) in
+    (sym (ap (λ (l : List ℕ). get_or l 0 0) (sym (keep_all t n) ∙ keep_some t 0 n (sym e)) ∙ rw (keep_step t i n f.high, f.here)), f.high)
 
 -- ---- from the end
 keep_last : (t : ℕ → Bool) (i : ℕ) → keep t 0 (i + 1) ≡ keep t 0 i ++ cons_if (t i) i []

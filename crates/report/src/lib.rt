@@ -1,64 +1,51 @@
 // What the program `marks` prints, on bytes: a take file in, its listing out.
+// That a track has at most 2,048 frames is a `requires` and no type where tracks are lent to be written.
 #![tactic(auto)]
 
 ghost use Rattle.std.specs.Prelude.{◌≡◌, ◌+◌, ◌*◌, ◌≤◌, [], length};
-ghost use Rattle.chain.specs.Chain.{take_of, lists_of, marks_for, chain_of};
+ghost use Rattle.chain.specs.Chain.{take_of, lists_of, chain_of};
 ghost use Rattle.take.specs.File.{frame_count, take_in};
+ghost use Rattle.report.specs.Answered.{left_in};
 ghost use Rattle.report.specs.Shown.{text_of, unsampled, printed, shown, Fitting};
 
-use admit::numbers::Refusal;
-use chain::Marked;
+use answered::Answered;
 use region::Settings;
 use take::file::{frames_in, read_take, read_track, take_refusal};
 use take::listing::{LARGEST_LISTING, listing, refused};
 use take::text::Page;
+use take::told::Told;
+
+mod answered;
 
 // The listing of what a call of the chain answered, or that it refused.
-fn show(
-    answer: Result<Marked, Refusal>,
-    given: &[f32],
-    left: &[f32],
-    frames: &[u32],
-    strengths: &[f32],
-    xframes: &[u32],
-    xstrengths: &[f32],
-    edges: &[u32],
-    bounds: &[u32],
-) -> Page<LARGEST_LISTING>
-    requires given_len { (length given.now ≡ length left.now)
-        × Fitting (length left.now) (lists_of frames.now strengths.now xframes.now xstrengths.now edges.now
-        bounds.now) }
-    ensures { result ≡ shown given.now
-        (record {
-          answer = marks_for answer;
-          pitch = left.now;
-          lists = (lists_of frames.now strengths.now xframes.now xstrengths.now
-              edges.now bounds.now);
-        }) }
+fn show(given: &[f32], call: Answered<'_>) -> Page<LARGEST_LISTING>
+    requires { length given.now ≡ length call.pitch.now }
+    ensures { result ≡ shown given.now (left_in call.entry) }
 {
-    match answer {
+    match call.answer {
         Ok(m) => {
-            let a = m.nuclei.min(frames.len());
-            let b = m.extras.min(xframes.len());
-            let c = m.edges.min(edges.len());
-            let d = m.boundaries.min(bounds.len());
-            listing(
+            let a = m.nuclei.min(call.frames.len());
+            let b = m.extras.min(call.xframes.len());
+            let c = m.edges.min(call.edges.len());
+            let d = m.boundaries.min(call.bounds.len());
+            listing(Told {
                 given,
-                left,
-                m.region,
-                &frames[..a],
-                &strengths[..a],
-                &xframes[..b],
-                &xstrengths[..b],
-                &edges[..c],
-                &bounds[..d],
-            )
+                left: call.pitch,
+                region: m.region,
+                frames: &call.frames[..a],
+                strengths: &call.strengths[..a],
+                extra_frames: &call.xframes[..b],
+                extra_strengths: &call.xstrengths[..b],
+                edges: &call.edges[..c],
+                boundaries: &call.bounds[..d],
+            })
         }
         Err(refusal) => refused(refusal),
     }
 }
 
 // Runs the chain without samples on lent tracks and result lists, and gives the listing.
+// What is written is lent one by one, here and below: a call that is lent two lists of one struct is refused.
 fn list_marks(
     given: &[f32],
     db: &[f32],
@@ -98,7 +85,17 @@ fn list_marks(
         bounds,
     );
     show(
-        answer, given, pitch, frames, strengths, xframes, xstrengths, edges, bounds,
+        given,
+        Answered {
+            answer,
+            pitch,
+            frames,
+            strengths,
+            xframes,
+            xstrengths,
+            edges,
+            bounds,
+        },
     )
 }
 

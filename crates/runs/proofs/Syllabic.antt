@@ -1,17 +1,16 @@
 -- Each syllable run is a union of long runs (`syllable_unions`), and the dropouts are the gaps inside syllable runs (`syllables_and_dropouts`, `dropout_inside`).
 -- Then the turns of the walks over runs: the syllable runs one after the other (`Joining`), and the dropouts (`Gapping`). Assumes nothing.
-use Prim.Native.Nat.{ℕ, suc, ◌+◌, ◌-◌, ◌*◌, ◌≤◌, ◌<◌}
+use Prim.Native.Nat.{ℕ, suc, ◌+◌, ◌*◌, ◌≤◌, ◌<◌}
 use native.Mathlib.Omega.{arith}
 use mathlib.Core.Path.{◌≡◌, refl, sym, ap, subst, ◌∙◌}
 use mathlib.Core.Bool.{Bool, true, false, not, cond}
 use mathlib.Core.List.{List, [], ◌∷◌, ◌++◌, append-nil}
 use mathlib.Core.Logic.{inl, inr}
-use lib.ListN.{length, get_or, drop, length-drop}
+use lib.ListN.{length, get_or, take, drop}
 use lib.Ieee.{Float}
 use Rattle.lists.specs.Results.{cons_if, filter}
 use Rattle.lists.specs.By.{Each, Some}
 use Rattle.lists.proofs.Entries.{each_map}
-use Rattle.lists.proofs.Fill.{drop_step}
 use Rattle.lists.specs.Grouped.{attach, grouped, Unions}
 use Rattle.runs.specs.declared.voiced.Span.{Span}
 use Rattle.runs.specs.Runs.{long_runs, InTrack, Spaced}
@@ -146,45 +145,64 @@ module _ (pitch : List Float) where
     pub joining_end_room : length done < length runs
     joining_end_room = push_room _ _ _ joining_end (length runs) (syllables_few runs)
 
-  -- ---- the dropouts so far, and those among the runs that are left, from the one before the i-th on
+  -- ---- the dropouts so far, and those among the runs that are left, from the one before the next gap on
   module _ (runs : List Span) where
-    pub record Gapping (done : List Span) (i : ℕ) : Type 0 where
-      pub whole : done ++ dropouts_of pitch (drop (i - 1) runs) ≡ dropouts_of pitch runs
+    pub record Gapping (done left : List Span) : Type 0 where
+      pub within : InTrack (length pitch) left
+      pub whole : done ++ dropouts_of pitch left ≡ dropouts_of pitch runs
 
-    abbrev run_at : ℕ → Span
-    run_at i = get_or runs i (record { first = 0; last = 0 })
+    -- the k-th of two neighbours
+    abbrev pub of_two : List Span → ℕ → Span
+    of_two pair k = get_or pair k (record { first = 0; last = 0 })
 
-    module _ {done : List Span} {i : ℕ} (past : 0 < i) (h : i < length runs) (g : Gapping done i) where
+    module _ {done left pair : List Span} (two : 2 ≤ length left) (e : pair ≡ take 2 left) (g : Gapping done left) where
+      abbrev between : Span
+      between = gap (of_two pair 0) (of_two pair 1)
+
       abbrev kept : Bool
-      kept = not (breaks_from pitch (run_at (i - 1)).last (run_at i).first)
+      kept = not (breaks_from pitch between.first between.last)
 
-      now : done ++ cons_if kept (gap (run_at (i - 1)) (run_at i)) (dropouts_of pitch (drop i runs)) ≡ dropouts_of pitch runs
+      left_is : left ≡ of_two pair 0 ∷ of_two pair 1 ∷ drop 2 left
+      left_is = go left two e
+        where
+          go : (rs : List Span) → 2 ≤ length rs → pair ≡ take 2 rs → rs ≡ of_two pair 0 ∷ of_two pair 1 ∷ drop 2 rs
+          go [] k q = absurd (omega arith)
+          go (a ∷ []) k q = absurd (omega arith)
+          go (a ∷ b ∷ rs) k q = rw q refl
+
+      rest_is : drop 1 left ≡ of_two pair 1 ∷ drop 2 left
+      rest_is = ap (drop 1) left_is
+
+      both_within : InTrack (length pitch) (of_two pair 0 ∷ of_two pair 1 ∷ drop 2 left)
+      both_within = subst (InTrack (length pitch)) left_is g.within
+
+      pub gapping_within : (between.first < length pitch) × (between.last < length pitch)
+      gapping_within = (both_within.0.1, omega (arith, both_within.1.0.0, both_within.1.0.1))
+
+      now : done ++ cons_if kept between (dropouts_of pitch (drop 1 left)) ≡ dropouts_of pitch runs
       unfolding dropouts_of gaps filter
-      now =
-          let e : i - 1 + 1 ≡ i = omega arith in
-          let f : drop i runs ≡ run_at i ∷ drop (i + 1) runs = drop_step runs i (record { first = 0; last = 0 }) h in
-          rw f (rw (drop_step runs (i - 1) (record { first = 0; last = 0 }) (omega arith), e, f) at g.whole)
+      now = rw rest_is (subst (λ (rs : List Span). done ++ dropouts_of pitch rs ≡ dropouts_of pitch runs) left_is g.whole)
 
-      back : i + 1 - 1 ≡ i
-      back = omega arith
+      here : kept ≡ true → done ++ (between ∷ dropouts_of pitch (drop 1 left)) ≡ dropouts_of pitch runs
+      here k = rw k at now
 
-      here : kept ≡ true → done ++ (gap (run_at (i - 1)) (run_at i) ∷ dropouts_of pitch (drop i runs)) ≡ dropouts_of pitch runs
-      here e = rw e at now
+      rest_within : InTrack (length pitch) (drop 1 left)
+      rest_within = rw rest_is both_within.1
 
       pub gapping_room : kept ≡ true → length done < length runs
-      gapping_room e = push_room _ _ _ (here e) (length runs) (omega (arith, syllables_and_dropouts runs))
+      gapping_room k = push_room _ _ _ (here k) (length runs) (omega (arith, syllables_and_dropouts runs))
 
-      pub gapping_yes : kept ≡ true → Gapping (done ++ (gap (run_at (i - 1)) (run_at i) ∷ [])) (i + 1)
-      gapping_yes e = record { whole = rw back (push_on _ _ _ (here e)) }
+      pub gapping_yes : kept ≡ true → Gapping (done ++ (between ∷ [])) (drop 1 left)
+      gapping_yes k = record { within = rest_within; whole = push_on _ _ _ (here k) }
 
-      pub gapping_no : kept ≡ false → Gapping done (i + 1)
-      gapping_no e = record { whole = rw back (rw e at now) }
+      pub gapping_no : kept ≡ false → Gapping done (drop 1 left)
+      gapping_no k = record { within = rest_within; whole = rw k at now }
 
-    pub gapping_end : {done : List Span} {i : ℕ} → length runs ≤ i → Gapping done i → done ≡ dropouts_of pitch runs
+    pub gapping_end : {done left : List Span} → length left < 2 → Gapping done left → done ≡ dropouts_of pitch runs
     unfolding dropouts_of gaps filter
-    gapping_end {done} {i} h g = sym (append-nil done) ∙ rw (over (drop (i - 1) runs) (omega (arith, length-drop (i - 1) runs))) at g.whole
+    gapping_end {done} {left} h g = sym (append-nil done) ∙ rw (over left h) at g.whole
       where
-        over : (rs : List Span) → length rs ≤ 1 → dropouts_of pitch rs ≡ []
+        over : (rs : List Span) → length rs < 2 → dropouts_of pitch rs ≡ []
         over [] k = refl
         over (a ∷ []) k = refl
         over (a ∷ b ∷ rs) k = absurd (omega arith)

@@ -4,7 +4,7 @@ use Prim.Native.Nat.{ℕ, ◌+◌, ◌-◌, ◌/◌, ◌≤◌, ◌<◌}
 use native.Mathlib.Omega.{arith}
 use native.Mathlib.Nat.{sub-zero, add_assoc}
 use mathlib.Core.Path.{◌≡◌, refl, sym, ap, ◌∙◌}
-use mathlib.Core.Bool.{Bool, true, false, cond, ◌||◌}
+use mathlib.Core.Bool.{Bool, true, false, cond}
 use mathlib.Core.List.{List, [], ◌∷◌, ◌++◌, append-nil, map}
 use lib.ListN.{length, get_or}
 use lib.Ieee.{Float, nan, ne}
@@ -14,11 +14,14 @@ use Rattle.lists.specs.Results.{cons_if, filter}
 use Rattle.lists.specs.Sorted.{StrictlyRises}
 use Rattle.lists.proofs.Fill.{map_cons_if, keep_step, keep_over}
 use Rattle.lists.proofs.Members.{keep_rises}
+use Rattle.lists.proofs.Firsts.{keep_some, keep_none}
+use Rattle.lists.specs.Frames.{first_in}
+use Rattle.std.specs.Prelude.{None, Some}
 use Rattle.runs.specs.declared.voiced.Run.{Run}
 use Rattle.lists.specs.Grouped.{attach, grouped, Unions}
 use Rattle.runs.specs.declared.voiced.Span.{Span}
 use Rattle.runs.specs.Runs.{span, voiced, voiced_frames, sole, close, joined, voiced_runs, long, long_runs}
-use Rattle.runs.specs.Ahead.{frames_from, runs_from, NextVoiced}
+use Rattle.runs.specs.Ahead.{frames_from, runs_from}
 use Rattle.lists.proofs.Grouping.{Joins, attach_join, attach_cut, grouped_unions}
 use Rattle.runs.proofs.Spacing.{voiced_few, long_few}
 use Rattle.runs.proofs.Pushing.{push_room, push_on}
@@ -38,11 +41,6 @@ module _ (pitch : List Float) where
   -- ---- the next voiced frame
   pub none_here : (i : ℕ) → i < length pitch → voiced pitch i ≡ false → frames_from pitch i ≡ frames_from pitch (i + 1)
   none_here i h e = rw (keep_step (voiced pitch) i (length pitch) h, e)
-
-  -- any: whether a frame from j to before k is voiced
-  pub none_more : (j k : ℕ) (any : Bool) {here : Bool} → k < length pitch → here ≡ voiced pitch k → (any ≡ false → frames_from pitch j ≡ frames_from pitch k) → any || here ≡ false → frames_from pitch j ≡ frames_from pitch (k + 1)
-  none_more j k false h e f z = f refl ∙ none_here k h (sym e ∙ z)
-  none_more j k true h e f z = absurd (cc)
 
   one_here : (i : ℕ) → i < length pitch → voiced pitch i ≡ true → frames_from pitch i ≡ i ∷ frames_from pitch (i + 1)
   one_here i h e = rw (keep_step (voiced pitch) i (length pitch) h, e)
@@ -124,61 +122,61 @@ module _ (pitch : List Float) where
     unfolding attach
     growing_over h = parted (rw (runs_over i h))
 
+  -- ---- what is left of the runs
+  -- nothing, where no frame from i on is voiced
+  pub ahead_none : (i : ℕ) → first_in (voiced pitch) i (length pitch - i) ≡ None → runs_from pitch i ≡ []
+  unfolding runs_from grouped
+  ahead_none i e = rw (keep_none (voiced pitch) i (length pitch) e)
+
+  -- or what is left from the first that is
+  pub ahead_some : (i : ℕ) {f : ℕ} → first_in (voiced pitch) i (length pitch - i) ≡ Some f → runs_from pitch i ≡ runs_from pitch f
+  ahead_some i {f} e = runs_same i f (keep_some (voiced pitch) i (length pitch) e)
+
   -- ---- the runs one after the other: those so far, and what is left
-  pub record Running (runs : List Run) (i : ℕ) : Type 0 where
-    pub within : i ≤ length pitch
-    pub here : i < length pitch → voiced pitch i ≡ true
-    pub whole : runs ++ runs_from pitch i ≡ voiced_runs pitch
+  pub record Running (runs left : List Run) : Type 0 where
+    pub whole : runs ++ left ≡ voiced_runs pitch
 
-  pub record RunningLong (runs : List Span) (i : ℕ) : Type 0 where
-    pub within : i ≤ length pitch
-    pub here : i < length pitch → voiced pitch i ≡ true
-    pub whole : runs ++ map span (filter long (runs_from pitch i)) ≡ long_runs pitch
+  pub record RunningLong (runs : List Span) (left : List Run) : Type 0 where
+    pub whole : runs ++ map span (filter long left) ≡ long_runs pitch
 
-  module _ {i : ℕ} (v : NextVoiced pitch 0 i) where
-    at_start : runs_from pitch i ≡ voiced_runs pitch
-    at_start = sym (runs_same 0 i v.same) ∙ runs_all
+  pub running_start : Running [] (runs_from pitch 0)
+  running_start = record { whole = runs_all }
 
-    pub running_start : Running [] i
-    running_start = record { within = v.within; here = v.here; whole = at_start }
+  pub running_long_start : RunningLong [] (runs_from pitch 0)
+  unfolding long_runs
+  running_long_start = record { whole = rw runs_all }
 
-    pub running_long_start : RunningLong [] i
-    unfolding long_runs
-    running_long_start = record { within = v.within; here = v.here; whole = rw at_start }
-
-  module _ {i : ℕ} (run : Run) (e : runs_from pitch i ≡ run ∷ runs_from pitch (run.last + 1)) where
-    module _ {runs : List Run} (g : Running runs i) where
-      now : runs ++ (run ∷ runs_from pitch (run.last + 1)) ≡ voiced_runs pitch
+  module _ {run : Run} {left rest : List Run} (e : left ≡ run ∷ rest) where
+    module _ {runs : List Run} (g : Running runs left) where
+      now : runs ++ (run ∷ rest) ≡ voiced_runs pitch
       now = rw e at g.whole
 
       pub running_room : length runs < (length pitch + 3) / 4
       running_room = push_room _ _ _ now ((length pitch + 3) / 4) (omega (arith, voiced_few pitch))
 
-      pub running_on : {k : ℕ} → NextVoiced pitch (run.last + 1) k → Running (runs ++ (run ∷ [])) k
-      running_on {k} v = record { within = v.within; here = v.here; whole = rw (runs_same (run.last + 1) k v.same) at (push_on _ _ _ now) }
+      pub running_on : Running (runs ++ (run ∷ [])) rest
+      running_on = record { whole = push_on _ _ _ now }
 
-    module _ {runs : List Span} (g : RunningLong runs i) where
-      now_long : runs ++ cons_if (long run) (span run) (map span (filter long (runs_from pitch (run.last + 1)))) ≡ long_runs pitch
+    module _ {runs : List Span} (g : RunningLong runs left) where
+      now_long : runs ++ cons_if (long run) (span run) (map span (filter long rest)) ≡ long_runs pitch
       unfolding filter
       now_long = simp (e, map_cons_if) at g.whole
 
-      next_long : long run ≡ true → runs ++ (span run ∷ map span (filter long (runs_from pitch (run.last + 1)))) ≡ long_runs pitch
+      next_long : long run ≡ true → runs ++ (span run ∷ map span (filter long rest)) ≡ long_runs pitch
       next_long l = rw l at now_long
 
       pub running_long_room : long run ≡ true → length runs < (length pitch + 3) / 4
       running_long_room l = push_room _ _ _ (next_long l) ((length pitch + 3) / 4) (omega (arith, long_few pitch))
 
-      module _ {k : ℕ} (v : NextVoiced pitch (run.last + 1) k) where
-        pub running_long_on : long run ≡ true → RunningLong (runs ++ (span run ∷ [])) k
-        running_long_on l = record { within = v.within; here = v.here; whole = rw (runs_same (run.last + 1) k v.same) at (push_on _ _ _ (next_long l)) }
+      pub running_long_on : long run ≡ true → RunningLong (runs ++ (span run ∷ [])) rest
+      running_long_on l = record { whole = push_on _ _ _ (next_long l) }
 
-        pub running_short : long run ≡ false → RunningLong runs k
-        running_short l = record { within = v.within; here = v.here; whole = rw (l, runs_same (run.last + 1) k v.same) at now_long }
+      pub running_short : long run ≡ false → RunningLong runs rest
+      running_short l = record { whole = rw l at now_long }
 
-  module _ {i : ℕ} (h : length pitch ≤ i) where
-    pub running_end : {runs : List Run} → Running runs i → runs ≡ voiced_runs pitch
-    running_end {runs} g = sym (append-nil runs) ∙ rw (runs_over i h) at g.whole
+  pub running_end : {runs left : List Run} → left ≡ [] → Running runs left → runs ≡ voiced_runs pitch
+  running_end {runs} e g = sym (append-nil runs) ∙ rw e at g.whole
 
-    pub running_long_end : {runs : List Span} → RunningLong runs i → runs ≡ long_runs pitch
-    unfolding filter
-    running_long_end {runs} g = sym (append-nil runs) ∙ rw (runs_over i h) at g.whole
+  pub running_long_end : {runs : List Span} {left : List Run} → left ≡ [] → RunningLong runs left → runs ≡ long_runs pitch
+  unfolding filter
+  running_long_end {runs} e g = sym (append-nil runs) ∙ rw e at g.whole

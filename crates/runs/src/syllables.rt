@@ -43,10 +43,10 @@ pub fn dropouts_of<const N: usize>(pitch: &[f32], runs: &[Span]) -> ArrayVec<Spa
     ensures { result.items ≡ dropouts_of pitch.now runs.now }
 {
     let mut dropouts = ArrayVec::new();
-    for i in 1..runs.len() {
+    for pair in runs.windows(2) {
         let gap = Span {
-            first: runs[i - 1].last,
-            last: runs[i].first,
+            first: pair[0].last,
+            last: pair[1].first,
         };
         if !breaks_from(pitch, gap.first, gap.last) {
             dropouts.push(gap);

@@ -1,11 +1,14 @@
 // The voiced frames of a pitch track, in which 0 is no pitch, and the runs that they make.
-ghost use Rattle.std.specs.Prelude.{◌≡◌, true, false, cond, ◌∷◌, ◌+◌, ◌≤◌, ◌<◌, length};
+ghost use Rattle.std.specs.Prelude.{◌≡◌, true, cond, ◌∷◌, ◌+◌, ◌-◌, ◌≤◌, ◌<◌, length};
 ghost use Rattle.std.specs.Float.Ieee.{ne};
+ghost use Rattle.std.specs.Iterator.{YieldsFirst, item_count};
 ghost use Rattle.floats.specs.Plain.{zero_f};
+ghost use Rattle.lists.specs.Frames.{first_in};
 ghost use Rattle.runs.specs.Runs.{voiced, sole, joined, span, voiced_runs, long_runs};
-ghost use Rattle.runs.specs.Ahead.{frames_from, runs_from, NextVoiced};
+ghost use Rattle.runs.specs.Ahead.{runs_from};
 
 use arrayvec::ArrayVec;
+use lists::first::first_from;
 
 // Two voiced frames that are at most this far apart share a run.
 const MAX_STEP: usize = 3;
@@ -13,8 +16,6 @@ const MAX_STEP: usize = 3;
 pub const MIN_RUN_FRAMES: u32 = 5;
 // The most runs that a track of 2,048 frames has: each begins 4 frames or more after the one before it.
 pub const MOST_RUNS: usize = 512;
-// How many frames are looked at together.
-const BLOCK: usize = 16;
 
 // A run by its first and last frame alone.
 #[derive(Clone, Copy, Default)]
@@ -66,46 +67,11 @@ pub fn is_voiced(hz: f32) -> bool
     hz != 0.0
 }
 
-// Whether a frame of the block from j on is voiced. All of them are looked at together, which is quick in a long silence.
-fn has_voiced(pitch: &[f32], j: usize) -> bool
-    requires { j + 16 ≤ length pitch.now }
-    ensures { result ≡ false → frames_from pitch.now j ≡ frames_from pitch.now (j + 16) }
+// The first voiced frame from i on.
+fn next_voiced(pitch: &[f32], i: usize) -> Option<usize>
+    ensures { result ≡ first_in (voiced pitch.now) i (length pitch.now - i) }
 {
-    let mut any = false;
-    for k in j..j + BLOCK {
-        any |= is_voiced(pitch[k]);
-    }
-    any
-}
-
-// A frame with no voiced one before it from i on: where the whole blocks without any end.
-fn skip_blocks(pitch: &[f32], i: usize) -> usize
-    requires { i ≤ length pitch.now }
-    ensures { (i ≤ result) × (result ≤ length pitch.now)
-        × (frames_from pitch.now i ≡ frames_from pitch.now result) }
-{
-    let mut at = i;
-    // A `while`: it steps by blocks.
-    while BLOCK <= pitch.len() - at {
-        if has_voiced(pitch, at) {
-            return at;
-        }
-        at += BLOCK;
-    }
-    at
-}
-
-// The first voiced frame from i on, or the track's length where there is none.
-fn next_voiced(pitch: &[f32], i: usize) -> usize
-    requires { i ≤ length pitch.now }
-    ensures { NextVoiced pitch.now i result }
-{
-    for at in skip_blocks(pitch, i)..pitch.len() {
-        if is_voiced(pitch[at]) {
-            return at;
-        }
-    }
-    pitch.len()
+    first_from(|k| is_voiced(pitch[k]), i, pitch.len())
 }
 
 // The voiced run that begins with the voiced frame f.
@@ -128,18 +94,38 @@ fn run_from(pitch: &[f32], f: usize) -> Run
     run
 }
 
+// The voiced runs of a track from frame `at` on, one after the other.
+#[derive(Drop)]
+struct RunsAhead<'a> {
+    pitch: &'a [f32],
+    at: usize,
+    ghost short: { length pitch.now ≤ 2048 },
+    ghost within: { at ≤ length pitch.now },
+}
+
+impl<'a> Iterator for RunsAhead<'a> {
+    type Item = Run;
+
+    ghost next_gives = { YieldsFirst (λ s. runs_from s.pitch.now s.at) };
+
+    ghost remaining = { item_count (λ s. runs_from s.pitch.now s.at) };
+
+    fn next(&mut self) -> Option<Run> {
+        let first = next_voiced(self.pitch, self.at)?;
+        let run = run_from(self.pitch, first);
+        self.at = run.last as usize + 1;
+        Some(run)
+    }
+}
+
 // The voiced runs, in order.
 pub fn voiced_runs(pitch: &[f32]) -> ArrayVec<Run, MOST_RUNS>
     requires { length pitch.now ≤ 2048 }
     ensures { result.items ≡ voiced_runs pitch.now }
 {
     let mut runs = ArrayVec::new();
-    let mut i = next_voiced(pitch, 0);
-    // A `while`: it goes from the end of each run to the next.
-    while i < pitch.len() {
-        let run = run_from(pitch, i);
+    for run in (RunsAhead { pitch, at: 0 }) {
         runs.push(run);
-        i = next_voiced(pitch, run.last as usize + 1);
     }
     runs
 }
@@ -150,14 +136,10 @@ pub fn long_runs(pitch: &[f32]) -> ArrayVec<Span, MOST_RUNS>
     ensures { result.items ≡ long_runs pitch.now }
 {
     let mut runs = ArrayVec::new();
-    let mut i = next_voiced(pitch, 0);
-    // A `while`: it goes from the end of each run to the next.
-    while i < pitch.len() {
-        let run = run_from(pitch, i);
+    for run in (RunsAhead { pitch, at: 0 }) {
         if MIN_RUN_FRAMES <= run.size {
             runs.push(run.span());
         }
-        i = next_voiced(pitch, run.last as usize + 1);
     }
     runs
 }

@@ -1,11 +1,13 @@
 -- A fold over a list gives its smallest and its largest entry, and the smallest above a number. Assumes nothing.
-use mathlib.Core.Path.{◌≡◌, ◌∙◌}
+use mathlib.Core.Path.{◌≡◌, refl, ◌∙◌}
 use mathlib.Core.Bool.{Bool, true, false, cond}
 use mathlib.Core.List.{List, [], ◌∷◌}
 use Prim.Native.Nat.{ℕ, ◌≤◌, min, max}
 use native.Mathlib.Omega.{arith}
 use lib.Dec.{ltb}
-use Rattle.std.specs.List.{fold}
+use Rattle.std.specs.List.{fold, reduce}
+use Rattle.std.specs.Prelude.{unwrap_or}
+use Rattle.lists.specs.By.{Each}
 use Rattle.lists.specs.Results.{cons_if, filter}
 use Rattle.select.specs.Order.{least_of, greatest_of, least_above}
 use Rattle.select.proofs.Ranks.{least_small}
@@ -14,15 +16,18 @@ from : (b : ℕ) (l : List ℕ) → b ≤ 4294967295 → fold min b l ≡ min b 
 from b [] h = omega arith
 from b (y ∷ l) h = from (min b y) l (omega arith) ∙ omega arith
 
-pub least_fold : (l : List ℕ) → fold min 4294967295 l ≡ least_of l
-least_fold l = from 4294967295 l (omega arith) ∙ omega (arith, least_small l)
+-- the keys are 32-bit numbers
+pub least_reduced : (l : List ℕ) → Each (λ y. y ≤ 4294967295) l → unwrap_or (reduce min l) 4294967295 ≡ least_of l
+least_reduced [] h = refl
+least_reduced (y ∷ l) h = from y l h.0
 
 up_from : (b : ℕ) (l : List ℕ) → fold max b l ≡ max b (greatest_of l)
 up_from b [] = omega arith
 up_from b (y ∷ l) = up_from (max b y) l ∙ omega arith
 
-pub greatest_fold : (l : List ℕ) → fold max 0 l ≡ greatest_of l
-greatest_fold l = up_from 0 l ∙ omega arith
+pub greatest_reduced : (l : List ℕ) → unwrap_or (reduce max l) 0 ≡ greatest_of l
+greatest_reduced [] = refl
+greatest_reduced (y ∷ l) = up_from y l
 
 above_from : (x b : ℕ) (l : List ℕ) → b ≤ 4294967295 → fold (λ b k. min b (cond (ltb x k) k 4294967295)) b l ≡ min b (least_above x l)
 unfolding filter

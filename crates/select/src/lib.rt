@@ -10,28 +10,24 @@ pub fn count(keys: &[u32], x: u32) -> u32
     requires { length keys.now < 4294967296 }
     ensures { result ≡ at_most x keys.now }
 {
-    let mut n = 0u32;
-    for k in keys {
-        n += (*k <= x) as u32;
-    }
-    n
+    lists::count::count_if(keys, |k| k <= x)
 }
 
 // The smallest key; the largest u32 where there is no key.
 fn least(keys: &[u32]) -> u32
     ensures { result ≡ least_of keys.now }
 {
-    keys.iter().fold(u32::MAX, |b, k| b.min(*k))
+    keys.iter().copied().min().unwrap_or(u32::MAX)
 }
 
 // The largest key; 0 where there is no key.
 fn greatest(keys: &[u32]) -> u32
     ensures { result ≡ greatest_of keys.now }
 {
-    keys.iter().fold(0, |b, k| b.max(*k))
+    keys.iter().copied().max().unwrap_or(0)
 }
 
-// k where it is above x, else the largest u32.
+// k where it is above x, else the largest u32, which is no smaller than any key: so `least_above` is defined.
 fn over(k: u32, x: u32) -> u32
     ensures { result ≡ cond (ltb x k) k 4294967295 }
 {

@@ -14,7 +14,7 @@ use Rattle.lists.specs.Sorted.{StrictlyRises}
 use Rattle.lists.proofs.Tests.{and_cases}
 use Rattle.lists.proofs.Entries.{each_map}
 use Rattle.lists.proofs.Members.{strict_between, each_keep, keep_rises}
-use Rattle.lists.proofs.Walks.{NonePass, none_more, Seeking, seek_start, seek_on, seek_past, seek_found, back_found}
+use Rattle.lists.proofs.Walks.{Seeking, seek_start, seek_on, seek_past, seek_found, back_found}
 use Rattle.lists.proofs.Fill.{keep_step, keep_over, keep_fits, keep_pass}
 use Rattle.smooth.specs.declared.extrema.Extremum.{Extremum}
 use Rattle.smooth.specs.Extrema.{changes_after, flat_last, middle, peaks_at, is_extremum, inside, local_extrema}
@@ -43,11 +43,6 @@ pub record Stretch (s : List Float) (i j : ℕ) : Type 0 where
 -- the stretch ends at j
 abbrev pub Ends : List Float → ℕ → Type 0
 Ends s j = (j + 1 < length s → changes_after s j ≡ true)
-
--- a: whether there is a change from i to k
-pub change_more : (s : List Float) (i k : ℕ) (a : Bool) → (a ≡ false → NonePass (changes_after s) i k) → (a || changes_after s k) ≡ false → NonePass (changes_after s) i (k + 1)
-change_more s i k false f z = none_more (changes_after s) (f refl) z
-change_more s i k true f z = absurd (true≢false z)
 
 -- ---- the extrema of a stretch
 module _ (s : List Float) (lo hi : ℕ) (kind : Extremum) where

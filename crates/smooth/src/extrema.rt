@@ -1,11 +1,13 @@
 // Local extrema of a track, the extremum of a part of it, and valleys between peaks.
-ghost use Rattle.std.specs.Prelude.{◌≡◌, false, ◌||◌, ◌+◌, ◌-◌, ◌<◌, ◌≤◌, length, leb};
+ghost use Rattle.std.specs.Prelude.{◌≡◌, ◌||◌, ◌+◌, ◌-◌, ◌<◌, ◌≤◌, length, leb};
 ghost use Rattle.std.proofs.Math.Seq.{slice};
-ghost use Rattle.smooth.specs.Extrema.{beyond, unreached, further, lower, furthest, left_clear, right_clear, middle, local_extrema, first_best, changes_after, flat_last, extremum_middle, argmin_middle, argmax_middle, shallow};
+ghost use Rattle.smooth.specs.Extrema.{beyond, unreached, further, lower, furthest, left_clear, right_clear, middle, local_extrema, first_best, changes_after, flat_last, extremum_middle, shallow};
 ghost use Rattle.smooth.specs.Offered.{offered};
 
 use arrayvec::ArrayVec;
+use lists::first::first_from;
 
+// Which extremum: a kind that the definitions are over, and no step to run. Closures in its place would hide which.
 #[derive(Clone, Copy)]
 pub enum Extremum {
     Max,
@@ -22,7 +24,8 @@ fn is_beyond(kind: Extremum, x: f32, y: f32) -> bool
     }
 }
 
-// Whether frame i is beyond the frame before it; at the start of the track it is.
+// Whether frame i is beyond the frame before it; at the start of the track it is. By index, as all here that is asked or
+// answered of a frame's place.
 fn left_clear(s: &[f32], kind: Extremum, i: usize) -> bool
     requires { i < length s.now }
     ensures { result ≡ left_clear kind s.now i }
@@ -55,49 +58,13 @@ fn is_offered(s: &[f32], lo: usize, hi: usize, kind: Extremum, i: usize, j: usiz
     (left_clear(s, kind, i) && right_clear(s, kind, j)) && (lo <= mid && mid < hi)
 }
 
-// How many steps from a frame to the next make a block.
-const BLOCK: usize = 16;
-
-// Whether the value changes somewhere in the block of steps from frame j on. All of them are looked at together, which is
-// quick on a long flat stretch.
-fn changes(s: &[f32], j: usize) -> bool
-    requires { j + 16 < length s.now }
-    ensures { result ≡ false → flat_last s.now j 16 ≡ j + 16 }
-{
-    let mut any = false;
-    for k in j..j + BLOCK {
-        any = any | (s[k + 1] != s[k]);
-    }
-    any
-}
-
-// A frame of the flat stretch from i on, as far as b: where the whole blocks of it end.
-fn flat_blocks(s: &[f32], i: usize, b: usize) -> usize
-    requires { (i ≤ b) × (b < length s.now) }
-    ensures { (i ≤ result) × (result ≤ b) × (flat_last s.now i (result - i) ≡ result) }
-{
-    let mut last = i;
-    // no `for`: it goes on by blocks, and answers where it came to
-    while BLOCK <= b - last {
-        if changes(s, last) {
-            return last;
-        }
-        last += BLOCK;
-    }
-    last
-}
-
-// The last frame of the flat stretch from i on, as far as b.
+// The last frame of the flat stretch from i on, as far as b. No method of `Part`: from a `Part` that it builds,
+// `local_extrema` took up to 2 times as long.
 fn flat_last(s: &[f32], i: usize, b: usize) -> usize
     requires { (i ≤ b) × (b < length s.now) }
     ensures { (result ≡ flat_last s.now i (b - i)) × ((i ≤ result) × (result ≤ b)) }
 {
-    for last in flat_blocks(s, i, b)..b {
-        if s[last + 1] != s[last] {
-            return last;
-        }
-    }
-    b
+    first_from(|k| s[k + 1] != s[k], i, b).unwrap_or(b)
 }
 
 // Whether a flat stretch ends at frame j: so at the end of the track.
@@ -110,11 +77,18 @@ fn ends_at(s: &[f32], j: usize) -> bool
 
 // The strict local extrema of s that lie in lo..hi, as rising frames.
 // A flat one counts once, at its middle; where it has no neighbour, at either end of s, that side is no matter.
-pub fn local_extrema(s: &[f32], lo: usize, hi: usize, kind: Extremum) -> ArrayVec<u32, 2048>
-    requires { length s.now ≤ 2048 }
-    ensures { result.items ≡ local_extrema s.now lo hi kind }
+// They are all that the lent list holds then: one that is returned lies on the stack twice more.
+pub fn local_extrema<const N: usize>(
+    s: &[f32],
+    lo: usize,
+    hi: usize,
+    kind: Extremum,
+    found: &mut ArrayVec<u32, N>,
+)
+    requires { (length s.now ≤ 2048) × (length s.now ≤ N) }
+    ensures { found.new.items ≡ local_extrema s.now lo hi kind }
 {
-    let mut found = ArrayVec::new();
+    found.clear();
     let mut i = 0;
     let mut j = 0;
     // no `for`: a flat stretch is passed at once
@@ -129,7 +103,6 @@ pub fn local_extrema(s: &[f32], lo: usize, hi: usize, kind: Extremum) -> ArrayVe
             j = flat_last(s, j + 1, s.len() - 1);
         }
     }
-    found
 }
 
 // x if it is beyond m, else m.
@@ -140,6 +113,7 @@ fn further(kind: Extremum, m: f32, x: f32) -> f32
 }
 
 // The lower of two values, the first where they are equal.
+// By hand: the library's `min` passes over a NaN that comes first, and may give either of two zeros.
 pub fn lower(x: f32, y: f32) -> f32
     ensures { result ≡ lower x y }
 {
@@ -156,65 +130,57 @@ fn unreached(kind: Extremum) -> f32
     }
 }
 
-// The highest value of a..=b, or the lowest for a minimum.
-fn furthest_between(s: &[f32], a: usize, b: usize, kind: Extremum) -> f32
-    requires { (a ≤ b) × (b < length s.now) }
-    ensures { result ≡ furthest kind (slice a (b + 1) s.now) }
-{
-    let part = &s[a..b + 1];
-    let mut m = unreached(kind);
-    for x in part {
-        m = further(kind, m, *x);
-    }
-    m
+// The part of a track from frame a to frame b, both in it.
+#[derive(Clone, Copy)]
+pub struct Part<'a> {
+    pub s: &'a [f32],
+    pub a: usize,
+    pub b: usize,
+    pub ghost inside: { (a ≤ b) × (b < length s.now) },
 }
 
-// The first frame of a..=b that none of them is beyond.
-fn first_best(s: &[f32], a: usize, b: usize, kind: Extremum) -> usize
-    requires { (a ≤ b) × (b < length s.now) }
-    ensures { (result ≡ first_best kind s.now a b) × ((a ≤ result) × (result ≤ b)) }
-{
-    let m = furthest_between(s, a, b, kind);
-    for i in a..b {
-        if !is_beyond(kind, m, s[i]) {
-            return i;
+impl Part<'_> {
+    // The highest value, or the lowest for a minimum.
+    fn furthest(self, kind: Extremum) -> f32
+        ensures { result ≡ furthest kind (slice self.entry.a (self.entry.b + 1) self.entry.s.now) }
+    {
+        let part = &self.s[self.a..self.b + 1];
+        let mut m = unreached(kind);
+        for x in part {
+            m = further(kind, m, *x);
         }
+        m
     }
-    b
-}
 
-// The frame in a..=b with the extremum of s there; of a flat one the middle of its first stretch in a..=b.
-fn extremum_middle(s: &[f32], a: usize, b: usize, kind: Extremum) -> usize
-    requires { (a ≤ b) × (b < length s.now) }
-    ensures { result ≡ extremum_middle kind s.now a b }
-{
-    let best = first_best(s, a, b, kind);
-    middle(best, flat_last(s, best, b))
-}
+    // The first frame that none is beyond.
+    fn first_best(self, kind: Extremum) -> usize
+        ensures { (result ≡ first_best kind self.entry.s.now self.entry.a self.entry.b)
+            × ((self.entry.a ≤ result) × (result ≤ self.entry.b)) }
+    {
+        let m = self.furthest(kind);
+        for i in self.a..self.b {
+            if !is_beyond(kind, m, self.s[i]) {
+                return i;
+            }
+        }
+        self.b
+    }
 
-// Where s is lowest from a to b; of the frames with that value the middle of the first stretch.
-// This and the next are two names for one function, as in the reference.
-pub fn argmin_middle(s: &[f32], a: usize, b: usize) -> usize
-    requires { (a ≤ b) × (b < length s.now) }
-    ensures { result ≡ argmin_middle s.now a b }
-{
-    extremum_middle(s, a, b, Extremum::Min)
-}
+    // The frame of the highest value, or of the lowest for a minimum; of the frames with that value the middle of the first
+    // stretch.
+    pub fn extremum_middle(self, kind: Extremum) -> usize
+        ensures { result ≡ extremum_middle kind self.entry.s.now self.entry.a self.entry.b }
+    {
+        let best = self.first_best(kind);
+        middle(best, flat_last(self.s, best, self.b))
+    }
 
-// Where s is highest from a to b; of the frames with that value the middle of the first stretch.
-pub fn argmax_middle(s: &[f32], a: usize, b: usize) -> usize
-    requires { (a ≤ b) × (b < length s.now) }
-    ensures { result ≡ argmax_middle s.now a b }
-{
-    extremum_middle(s, a, b, Extremum::Max)
-}
-
-// Whether the valley from a to b is too shallow for two peaks: no value there falls as far as the dip below the lower of
-// the two.
-pub fn shallow_valley(s: &[f32], a: usize, b: usize, dip: f32) -> bool
-    requires { (a ≤ b) × (b < length s.now) }
-    ensures { result ≡ shallow s.now a b dip }
-{
-    let peak = lower(s[a], s[b]);
-    furthest_between(s, a, b, Extremum::Min) > peak - dip
+    // Whether it is too shallow a valley for two peaks at its ends: no value falls as far as the dip below the lower of the
+    // two.
+    pub fn is_shallow(self, dip: f32) -> bool
+        ensures { result ≡ shallow self.entry.s.now self.entry.a self.entry.b dip }
+    {
+        let peak = lower(self.s[self.a], self.s[self.b]);
+        self.furthest(Extremum::Min) > peak - dip
+    }
 }

@@ -5,6 +5,7 @@ use Rattle.std.specs.Float.{nan, binary32}
 use Rattle.std.specs.Float.Ieee.{to_bits}
 use Rattle.lists.specs.Results.{keep}
 use Rattle.region.specs.declared.Region.{Region}
+use Rattle.take.specs.declared.told.Told.{Told}
 use Rattle.take.specs.Text.{hex, decimal, line}
 
 -- what a listing tells: the pitches as given and as left, the region, and the four lists
@@ -21,6 +22,10 @@ pub record Marks : Type 0 where
 
 abbrev pub told_of : List Float → List Float → Option Region → List ℕ → List Float → List ℕ → List Float → List ℕ → List ℕ → Marks
 told_of given left region frames strengths xframes xstrengths edges bounds = record { given = given; left = left; region = region; frames = frames; strengths = strengths; extra_frames = xframes; extra_strengths = xstrengths; edges = edges; boundaries = bounds }
+
+-- what the code's record tells
+abbrev pub marks_told : Told → Marks
+marks_told t = told_of t.given.now t.left.now t.region t.frames.now t.strengths.now t.extra_frames.now t.extra_strengths.now t.edges.now t.boundaries.now
 
 -- the words, in ASCII
 abbrev pub pitch_word : List ℕ

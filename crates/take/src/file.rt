@@ -4,11 +4,9 @@ ghost use Rattle.admit.specs.Numbers.{number_of};
 ghost use Rattle.take.specs.File.{frame_count, agrees, refusal_by, records, track_at, marks_in, settings_in, take_in};
 
 use super::fields::{float_at, half_at, word_at};
+use admit::MAX_FRAMES;
 use admit::numbers::Refusal;
 use region::Settings;
-
-// The most frames of a take.
-const MAX_FRAMES: usize = 2048;
 
 // Bytes of the head, and of a record.
 const HEAD: usize = 19;
@@ -55,7 +53,8 @@ pub fn take_refusal(head: &[u8], size: usize) -> Result<(), Refusal>
 }
 
 // Reads the f32 at `at` of each record to a track: dB at 0, pitch at 4, `voiced_p` at 8, sonority at 12. Apart from
-// `read_marks`, since it reads numbers of four bytes, at a place that is given.
+// `read_marks`: one function over a closure for the field would say more of the closure (`F.pre`, `F.post`) than the two loops
+// of a line have. By index, as a loop over `iter_mut().zip` takes 1.4 times as long.
 pub fn read_track(file: &[u8], at: usize, track: &mut [f32])
     requires { (at + 4 ≤ 17) × (19 + 17 * length track.old ≤ length file.now) }
     ensures { track.new ≡ track_at at (records (length track.old) (drop 19 file.now)) }
@@ -65,7 +64,7 @@ pub fn read_track(file: &[u8], at: usize, track: &mut [f32])
     }
 }
 
-// Reads the byte that ends each record to a list of marks. Apart from `read_track`, since it reads bytes, at one place.
+// Reads the byte that ends each record to a list of marks, as `read_track` reads numbers of four bytes.
 fn read_marks(file: &[u8], marks: &mut [u8])
     requires { 19 + 17 * length marks.old ≤ length file.now }
     ensures { marks.new ≡ marks_in (records (length marks.old) (drop 19 file.now)) }
@@ -87,7 +86,7 @@ fn read_settings(file: &[u8]) -> Settings
 }
 
 // Reads the take of a file that is not refused: its tracks to lent ones of as many frames, and its settings.
-// Every pattern of any field is read.
+// Every pattern of any field is read. The tracks are lent one by one: a call that is lent two lists of one struct is refused.
 pub fn read_take(
     file: &[u8],
     db: &mut [f32],

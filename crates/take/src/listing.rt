@@ -1,9 +1,10 @@
 // The lines of a listing, written to a page one after another.
 ghost use Rattle.std.specs.Prelude.{◌≡◌, cond, [], ◌++◌, ◌+◌, ◌≤◌, length};
-ghost use Rattle.take.specs.Listing.{told_of, repitched, pitch_word, frame_line, mark_line, frame_lines, mark_lines, pitch_lines, region_line, listing, refused_listing};
+ghost use Rattle.take.specs.Listing.{marks_told, repitched, pitch_word, frame_line, mark_line, frame_lines, mark_lines, pitch_lines, region_line, listing, refused_listing};
 ghost use Rattle.admit.specs.Numbers.{number_at};
 
 use super::text::Page;
+use super::told::Told;
 
 // The bytes of the longest listing of a take.
 pub const LARGEST_LISTING: usize = 237617;
@@ -69,14 +70,13 @@ fn pitch_line<const N: usize>(given: f32, left: f32, frame: u32, page: &mut Page
     }
 }
 
-// A line for each frame whose pitch changed. It goes by an index, since a line tells its frame.
-fn pitch_lines<const N: usize>(given: &[f32], left: &[f32], page: &mut Page<N>)
-    requires given_len { (length given.now ≡ length left.now) × (length left.now ≤ 2048) }
-    requires room { length page.old + length (pitch_lines given.now left.now) ≤ N }
-    ensures { page.new ≡ page.old ++ pitch_lines given.now left.now }
+// A line for each frame whose pitch changed.
+fn pitch_lines<const N: usize>(t: Told<'_>, page: &mut Page<N>)
+    requires { length page.old + length (pitch_lines t.given.now t.left.now) ≤ N }
+    ensures { page.new ≡ page.old ++ pitch_lines t.entry.given.now t.entry.left.now }
 {
-    for i in 0..left.len() {
-        pitch_line(given[i], left[i], i as u32, page);
+    for (i, (given, left)) in t.given.iter().zip(t.left).enumerate() {
+        pitch_line(*given, *left, i as u32, page);
     }
 }
 
@@ -99,31 +99,17 @@ fn region_line<const N: usize>(region: Option<Region>, page: &mut Page<N>)
 
 // The listing, on a page of its own.
 #[tactic(auto, unfolding(crate::specs::Listing::listing))]
-pub fn listing<const N: usize>(
-    given: &[f32],
-    left: &[f32],
-    region: Option<Region>,
-    frames: &[u32],
-    strengths: &[f32],
-    xframes: &[u32],
-    xstrengths: &[f32],
-    edges: &[u32],
-    bounds: &[u32],
-) -> Page<N>
-    requires given_len { (length given.now ≡ length left.now) × (length left.now ≤ 2048) }
-    requires room { length (listing (told_of given.now left.now region frames.now strengths.now xframes.now
-        xstrengths.now edges.now bounds.now)) ≤ N }
-    ensures { result ≡ listing
-        (told_of given.now left.now region frames.now strengths.now
-        xframes.now xstrengths.now edges.now bounds.now) }
+pub fn listing<const N: usize>(t: Told<'_>) -> Page<N>
+    requires { length (listing (marks_told t)) ≤ N }
+    ensures { result ≡ listing (marks_told t.entry) }
 {
     let mut page = Page::new();
-    pitch_lines(given, left, &mut page);
-    region_line(region, &mut page);
-    mark_lines(b"nucleus", frames, strengths, &mut page);
-    mark_lines(b"extra", xframes, xstrengths, &mut page);
-    frame_lines(b"extra-edge", edges, &mut page);
-    frame_lines(b"boundary", bounds, &mut page);
+    pitch_lines(t, &mut page);
+    region_line(t.region, &mut page);
+    mark_lines(b"nucleus", t.frames, t.strengths, &mut page);
+    mark_lines(b"extra", t.extra_frames, t.extra_strengths, &mut page);
+    frame_lines(b"extra-edge", t.edges, &mut page);
+    frame_lines(b"boundary", t.boundaries, &mut page);
     page
 }
 

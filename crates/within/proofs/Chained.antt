@@ -3,14 +3,14 @@ use Prim.Native.Nat.{ℕ, min}
 use native.Mathlib.Omega.{arith}
 use mathlib.Core.Path.{◌≡◌, refl, sym, ap, ◌∙◌}
 use mathlib.Core.List.{List, ◌++◌}
-use lib.ListN.{length, take, drop, length-map, length-take}
+use lib.ListN.{length, take, drop, length-map}
 use lib.Ieee.{Float}
 use Rattle.chain.specs.Chain.{Take, Lists, Left, written, refusal_of, chain_of, ChainCall, reading_by, answer_by, refusal_for, leaves}
 use Rattle.chain.specs.declared.Marks.{Marks}
 use Rattle.chain.proofs.Demand3.{leaves_by, counts}
 use Rattle.chain.proofs.Marking.{nothing_written}
 use Rattle.within.specs.Within.{Scratch, ChainWithin}
-use Rattle.within.proofs.Rooms.{part_laid, chain_room}
+use Rattle.within.proofs.Rooms.{cut_room, part_laid, chain_room}
 
 -- ---- the plain chain by its refusal number
 chain_is : (t : Take) (l : Lists) (n : ℕ) → refusal_of t l ≡ n → chain_of t l ≡ record { answer = answer_by t n; pitch = (reading_by t n).pitch; lists = written (reading_by t n) l }
@@ -29,10 +29,10 @@ module _ (t : Take) (room xroom k x : ℕ) (old : Lists) (ek : k ≡ min room 20
       pitch r
   noted long {new} {pitch} {r} lf lx e =
       let number : ℕ = refusal_for t room room xroom xroom (length old.edges) (length old.bounds) in
-      let af : length (take k old.frames) ≡ min room 2048 = length-take k old.frames ∙ omega (arith, ek, long.0.0) in
-      let cs : length (take k old.strengths) ≡ min room 2048 = length-take k old.strengths ∙ omega (arith, ek, long.0.1) in
-      let bf : length (take x old.xframes) ≡ min xroom 2048 = length-take x old.xframes ∙ omega (arith, ex, long.1.0) in
-      let bs : length (take x old.xstrengths) ≡ min xroom 2048 = length-take x old.xstrengths ∙ omega (arith, ex, long.1.1) in
+      let af = cut_room k old.frames room ek long.0.0 in
+      let cs = cut_room k old.strengths room ek long.0.1 in
+      let bf = cut_room x old.xframes xroom ex long.1.0 in
+      let bs = cut_room x old.xstrengths xroom ex long.1.1 in
       let g = e ∙ chain_is t cut number (chain_room t.db t.pitch t.voiced t.sonority t.vowel (length t.samples) t.settings _ _ room _ _ xroom (length old.edges) (length old.bounds) af cs bf bs) in
       let answer : r ≡ answer_by t number = ap (λ (o : Left). o.answer) g in
       let m = reading_by t number in

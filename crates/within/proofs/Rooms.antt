@@ -29,6 +29,9 @@ use Rattle.within.specs.Within.{Laid}
 pub cut_long : {A : Type 0} (k : ℕ) (l : List A) (room : ℕ) → k ≡ min room 2048 → length l ≡ 2048 → k ≡ length (take k l)
 cut_long k l room e h = omega (arith, length-take k l, e, h)
 
+pub cut_room : {A : Type 0} (k : ℕ) (l : List A) (room : ℕ) → k ≡ min room 2048 → length l ≡ 2048 → length (take k l) ≡ min room 2048
+cut_room k l room e h = omega (arith, cut_long k l room e h, e)
+
 -- a track of at most 2,048 frames
 enough : (n a room : ℕ) → n ≤ 2048 → a ≡ min room 2048 → leb n a ≡ leb n room
 enough n a room h e = go (leb n a) (leb n room) refl refl

@@ -1,13 +1,14 @@
 // The entries over plain lists that stand for a caller's lists of records: each is refused as these would be, by the room that they
 // have. No take has more than 2,048 nuclei, so lists of that many entries stand for any.
-// Parameters are as in the C interface.
+// Tracks, lists and ends of a region are parameters of their own, as the C interface gives them; its lists of records come as two
+// plain lists and the room that they have.
 #![tactic(auto)]
 
-ghost use Rattle.std.specs.Prelude.{◌≤◌, length, take};
-ghost use Rattle.entries.specs.Stages.{answer_of, counted_of, BoundariesWithCall, BoundariesCall};
+ghost use Rattle.entries.specs.Stages.{answer_of, counted_of};
 ghost use Rattle.chain.specs.Chain.{take_of, lists_of, marks_for};
 ghost use Rattle.within.specs.Within.{Scratch, NucleiWithin, ExtrasWithin, ChainWithin};
 
+use admit::MAX_FRAMES;
 use admit::numbers::Refusal;
 use chain::Marked;
 use extra::Counts;
@@ -28,7 +29,7 @@ pub fn nuclei_within(
     ensures { NucleiWithin db.now pitch.now start end p room frames.new
         strengths.new (answer_of result) }
 {
-    let k = room.min(2048);
+    let k = room.min(MAX_FRAMES);
     entries::stages::nuclei(
         db,
         pitch,
@@ -40,76 +41,38 @@ pub fn nuclei_within(
     )
 }
 
-// The extra candidates in two lists, around the first count frames of a third, refused as a list of room records would be.
+// The extra candidates around given nuclei in two lists, refused as a list of room records would be.
 pub fn extras_within(
     db: &[f32],
     pitch: &[f32],
     sonority: &[f32],
     start: usize,
     end: usize,
-    given: &[u32],
-    count: usize,
+    nuclei: &[u32],
     p: Settings,
     edges: &mut [u32],
     frames: &mut [u32],
     strengths: &mut [f32],
     room: usize,
 ) -> Result<Counts, Refusal>
-    requires { (count ≤ length given.now) × Scratch frames.old strengths.old }
+    requires { Scratch frames.old strengths.old }
     ensures { ExtrasWithin db.now pitch.now sonority.now start end
-        (take count given.now) p room frames.new strengths.new edges.old
+        nuclei.now p room frames.new strengths.new edges.old
         edges.new (counted_of result) }
 {
-    let k = room.min(2048);
+    let k = room.min(MAX_FRAMES);
     entries::stages::extras(
         db,
         pitch,
         sonority,
         start,
         end,
-        &given[..count],
+        nuclei,
         p,
         &mut frames[..k],
         &mut strengths[..k],
         edges,
     )
-}
-
-// The boundaries of start..end under given settings, around the first count frames of a list.
-pub fn boundaries_with_given(
-    db: &[f32],
-    pitch: &[f32],
-    voiced: &[f32],
-    start: usize,
-    end: usize,
-    given: &[u32],
-    count: usize,
-    p: Settings,
-    out: &mut [u32],
-) -> Result<usize, Refusal>
-    requires { count ≤ length given.now }
-    ensures { BoundariesWithCall db.now pitch.now voiced.now start end
-        (take count given.now) p out.old out.new (answer_of result) }
-{
-    entries::stages::boundaries_with(db, pitch, voiced, start, end, &given[..count], p, out)
-}
-
-// The boundaries of start..end under the defaults, around the first count frames of a list.
-pub fn boundaries_given(
-    db: &[f32],
-    pitch: &[f32],
-    voiced: &[f32],
-    start: usize,
-    end: usize,
-    given: &[u32],
-    count: usize,
-    out: &mut [u32],
-) -> Result<usize, Refusal>
-    requires { count ≤ length given.now }
-    ensures { BoundariesCall db.now pitch.now voiced.now start end
-        (take count given.now) out.old out.new (answer_of result) }
-{
-    entries::stages::boundaries(db, pitch, voiced, start, end, &given[..count], out)
 }
 
 // The chain over plain lists, refused as lists of room and xroom records would be.
@@ -138,8 +101,8 @@ pub fn chain_within(
         edges.new bounds.new)
         pitch.new (marks_for result) }
 {
-    let k = room.min(2048);
-    let x = xroom.min(2048);
+    let k = room.min(MAX_FRAMES);
+    let x = xroom.min(MAX_FRAMES);
     chain::chain(
         db,
         pitch,

@@ -1,20 +1,20 @@
 -- `region_refusal` meets its contract. Assumes nothing.
-use mathlib.Core.Path.{refl, sym}
-use borrow.Author.Tests.{lt-leb, le-leb}
+use Rattle.std.proofs.Common.{refl}
+use Rattle.std.proofs.lemmas.Result.{err_from_is_err_and}
 use Rattle.admit.specs.Refusals.{tested, refusal, region_refusal}
-use Rattle.admit.proofs.First.{passed_in_turn, numbered, stop, next}
+use Rattle.admit.specs.First.{passes}
+use Rattle.admit.specs.Values.{all_of}
+use Rattle.admit.proofs.First.{passed_in_turn, at_once, later, next}
+use Rattle.admit.proofs.Numbered.{not_zero}
 use Rattle.admit.proofs.region_refusal.Goals as goal
 
-pub returns-then-db-gt-MAX_FRAMES : goal.returns-then-db-gt-MAX_FRAMES
-unfolding region_refusal refusal tested passed_in_turn
-returns-then-db-gt-MAX_FRAMES c = stop _ _ _ (lt-leb _ _ c.if-db-gt-MAX_FRAMES.true)
+pub returns-in_err-lengths_refusal : goal.returns-in_err-lengths_refusal
+unfolding region_refusal refusal tested passes all_of
+returns-in_err-lengths_refusal c =
+    let p = err_from_is_err_and c.from_residual.result c.from_residual.ensures.1 in
+    rw (p.1, p.2) (at_once _ _ (not_zero _) c.in_err-lengths_refusal.ensures)
 
 pub returns : goal.returns
-unfolding region_refusal refusal tested passed_in_turn
-returns c =
-    numbered _ _ c.first_refusal.ensures
-    (next (sym (le-leb _ _ c.if-db-gt-MAX_FRAMES.false))
-    (next refl
-    (next c.settings_admitted.ensures
-    (next c.all_db.ensures
-    refl))))
+unfolding region_refusal refusal tested passes all_of passed_in_turn
+returns c = later _ _ c.in_ok-lengths_refusal.ensures c.first_refusal.ensures
+    (next refl (next c.settings_admitted.ensures (next c.all_db.ensures refl)))

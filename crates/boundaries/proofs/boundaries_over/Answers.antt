@@ -28,7 +28,7 @@ add_edges-requires-2-clause-keyed c = voicings_keyed _ _ _ _ _ (omega arith)
 fits : (c : After-len-n) → c.len-n.result ≤ length c.args.out.now
 fits c =
     let n = length c.args.t.level.now in
-    omega (arith, c.len-n.ensures.value ∙ ap length c.frames-frames.ensures, keep_fits (λ x. marked c.add_minima.new.kept.marks (x + 2)) 0 (n + 1))
+    omega (arith, c.len-n.ensures.value ∙ ap length c.frames.ensures, keep_fits (λ x. marked c.add_minima.new.kept.marks (x + 2)) 0 (n + 1))
 
 pub slice_bounds-copy_from_slice-end : goal.slice_bounds-copy_from_slice-end
 slice_bounds-copy_from_slice-end c = fits c
@@ -50,4 +50,4 @@ returns c =
     let kept = rw c.ends-kept.ensures.1 at (edged.adds (ends t.bounds.start t.bounds.end) c.ends-kept.ensures.0) in
     let all = whole_frames t.db.now t.level.now t.pitch.now t.voiced.now t.bounds c.args.dip c.args.nuclei.now (omega arith) (omega arith)
     kept (edged.cap ∙ c.ends-kept.ensures.1) (rw e at c.add_minima.ensures) in
-    copied (c.frames-frames.ensures ∙ all) c.len-n.ensures.value (c.copy_from_slice.ensures.after ∙ c.deref.ensures.0)
+    copied (c.frames.ensures ∙ all) c.len-n.ensures.value (c.copy_from_slice.ensures.after ∙ c.deref.ensures.0)

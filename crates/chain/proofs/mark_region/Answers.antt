@@ -10,7 +10,7 @@ pub slice_bounds-extra_candidates-end-2 : goal.slice_bounds-extra_candidates-end
 slice_bounds-extra_candidates-end-2 c = listed_count c.nuclei-n.ensures.0
 
 pub extra_candidates-x-requires : goal.extra_candidates-x-requires
-extra_candidates-x-requires c = (c.requires.db_len_bound.0, c.requires.db_len_bound.1, c.requires.db_len_bound.4, c.requires.room.2, c.requires.room.3, c.requires.room.4)
+extra_candidates-x-requires c = (c.args.t.alike.0, c.args.t.alike.1, c.requires.inside.1, c.requires.room.2, c.requires.room.3, c.requires.room.4)
 
 pub slice_bounds-boundaries_with-end : goal.slice_bounds-boundaries_with-end
 slice_bounds-boundaries_with-end c = listed_fits c.nuclei-n.ensures.0
@@ -21,7 +21,7 @@ slice_bounds-boundaries_with-end-2 c = listed_count c.nuclei-n.ensures.0
 pub boundaries_with-bs-requires : goal.boundaries_with-bs-requires
 boundaries_with-bs-requires c =
     let f = c.nuclei-n.ensures.0 in
-    record { start_le_end = (c.requires.db_len_bound.3, c.requires.db_len_bound.4, c.requires.db_len_bound.0, c.requires.db_len_bound.1, c.requires.db_len_bound.2); strictly_rises = lent_rises c.args.t.db.now c.args.t.pitch.now c.args.t.voiced.now c.args.t.sonority.now c.args.p c.args.region.start c.args.region.end c.requires.db_len_bound.4 f; db_in_bounds = c.requires.room.5 }
+    record { start_le_end = (c.requires.inside.0, c.requires.inside.1, c.args.t.alike.0, c.args.t.alike.1, c.args.t.alike.2); strictly_rises = lent_rises c.args.t.db.now c.args.t.pitch.now c.args.t.voiced.now c.args.t.sonority.now c.args.p c.args.region.start c.args.region.end c.requires.inside.1 f; db_in_bounds = c.requires.room.5 }
 
 pub returns : goal.returns
 returns c =

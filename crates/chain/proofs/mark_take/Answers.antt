@@ -11,7 +11,7 @@ mark_region-requires c =
     let e = sym c.speech_region.ensures ∙ c.in-Some.is in
     let t = threshold_of c.args.t.db.now c.args.p in
     let w = region_size t c.args.t.db.now _ _ e in
-    record { db_len_bound = (c.requires.db_len_bound.0, c.requires.db_len_bound.1, c.requires.db_len_bound.2, omega (arith, w), region_within t c.args.t.db.now _ _ e); room = c.requires.room }
+    record { inside = (omega (arith, w), region_within t c.args.t.db.now _ _ e); room = c.requires.room }
 
 pub returns-in_default : goal.returns-in_default
 returns-in_default c =

@@ -1,10 +1,7 @@
 -- `extra::all_edges` meets its contract: what there is, with what is left of the one list and then of the other, is the whole. Assumes nothing.
-use native.Mathlib.Omega.{arith}
-use Prim.Native.Nat.{◌-◌, ◌≤◌}
-use mathlib.Core.Path.{◌≡◌, sym, ◌∙◌}
-use mathlib.Core.Bool.{true, false, ◌||◌}
-use mathlib.Core.List.{append-nil, ◌++◌, map}
-use lib.ListN.{length, get_or, length-append, length-map}
+use Rattle.std.proofs.Common.{arith, refl, sym, ◌∙◌, ◌≡◌, ◌≤◌, ◌||◌, true, false, length, length-append, get_or, take, map, ◌++◌, append-nil}
+use lib.ListN.{length-map}
+use Rattle.std.specs.Slice.Iter.{windows_rest}
 use Rattle.lists.proofs.Fill.{drop_step}
 use Rattle.lists.proofs.Members.{strict_few}
 use Rattle.smooth.specs.declared.extrema.Extremum.TheVariants.{Min}
@@ -13,63 +10,84 @@ use Rattle.runs.proofs.Pushing.{push_room}
 use Rattle.nuclei.proofs.Steps.{pick_room, pick_yes, pick_no}
 use Rattle.extra.specs.Merging.{mark_at}
 use Rattle.extra.specs.Extra.{edges_between}
-use Rattle.extra.proofs.Edging.{between_few, between_step, between_order, between_over}
+use Rattle.extra.proofs.Edging.{between_few, between_step, between_order, between_rest, between_over}
 use Rattle.extra.specs.Seconds.{edge_of}
 use Rattle.extra.proofs.all_edges.Goals as goal
-use Rattle.extra.proofs.all_edges.Goals.{then-is_peak-a, then-is_peak-a-via-then-is_peak-a, then-is_peak-a-via-else-is_peak-a+then-is_peak-b, else-is_peak-a+else-is_peak-b}
+use Rattle.extra.proofs.all_edges.Goals.{then-is_peak-between-via-then-is_peak-between, then-is_peak-between-via-else-is_peak-between+then-is_peak-between-2}
 
-pub bounds-is_peak-a : goal.bounds-is_peak-a
-bounds-is_peak-a c = omega (arith, between_order c.args.s.now (mark_at c.args.is_peak.now) c.args.kept.now c.loop-i.i (length c.args.s.now) c.requires.1 (omega arith) c.loop-i-test.true)
+pub loop-pair-init : goal.loop-pair-init
+loop-pair-init c = rw (c.into_iter-pair-iterator.ensures.into_iter_gives, c.windows-pair-items.ensures.size, c.windows-pair-items.ensures.rest, c.clear.ensures) (refl, c.requires.1, refl)
 
-pub bounds-is_peak-b : goal.bounds-is_peak-b
-bounds-is_peak-b c = omega (arith, between_order c.args.s.now (mark_at c.args.is_peak.now) c.args.kept.now c.loop-i.i (length c.args.s.now) c.requires.1 (omega arith) c.loop-i-test.true)
-
-pub argmin_middle-requires : goal.argmin_middle-requires
-argmin_middle-requires c =
-    let o = between_order c.args.s.now (mark_at c.args.is_peak.now) c.args.kept.now c.loop-i.i (length c.args.s.now) c.requires.1 (omega arith) c.loop-i-test.true in
-    (omega arith, o.1)
-
-pub overflow_cast-argmin_middle : goal.overflow_cast-argmin_middle
-overflow_cast-argmin_middle c =
+pub overflow_cast-extremum_middle : goal.overflow_cast-extremum_middle
+overflow_cast-extremum_middle c =
     let s = c.args.s.now in
-    let kept = c.args.kept.now in
-    let i = c.loop-i.i in
-    let o = between_order s (mark_at c.args.is_peak.now) kept i (length s) c.requires.1 (omega arith) c.loop-i-test.true in
-    omega (arith, c.argmin_middle.ensures, (middle_within Min s (get_or kept (i - 1) 0) (get_or kept i 0) (omega arith) o.1).1)
+    let t = mark_at c.args.is_peak.now in
+    let turn = c.in-Some.ensures.steps in
+    let g = c.loop-pair.invariant in
+    let left = windows_rest c.loop-pair.pair-iterator in
+    let pair = c.in-Some.pair.now in
+    let two : 2 ≤ length left = omega (arith, turn.1.0, g.0) in
+    let front : pair ≡ take 2 left = rw g.0 at turn.1.1 in
+    let o = between_order s t left pair two front (length s) g.1 in
+    omega (arith, c.extremum_middle.ensures, (middle_within Min s (get_or pair 0 0) (get_or pair 1 0) (omega arith) o.1).1)
 
 pub push-requires : goal.push-requires
 push-requires c =
+    let s = c.args.s.now in
     let t = mark_at c.args.is_peak.now in
-    let kept = c.args.kept.now in
-    let few : length (edges_between c.args.s.now t kept) ≤ 2560 = omega (arith, between_few c.args.s.now t kept, strict_few 0 (length c.args.s.now) kept (omega arith) c.requires.1) in
-    let s = rw (between_step c.args.s.now t kept c.loop-i.i (omega arith) c.loop-i-test.true) at c.loop-i.invariant in
-    let one : (t (get_or kept (c.loop-i.i - 1) 0) || t (get_or kept c.loop-i.i 0)) ≡ true =
-    elim c.then-is_peak-a.branch [
-      | then-is_peak-a-via-then-is_peak-a w ↦ rw w.if-is_peak-a.true
-      | then-is_peak-a-via-else-is_peak-a+then-is_peak-b w ↦ rw (w.if-is_peak-a.false, w.if-is_peak-b.true)
+    let turn = c.in-Some.ensures.steps in
+    let g = c.loop-pair.invariant in
+    let left = windows_rest c.loop-pair.pair-iterator in
+    let pair = c.in-Some.pair.now in
+    let two : 2 ≤ length left = omega (arith, turn.1.0, g.0) in
+    let front : pair ≡ take 2 left = rw g.0 at turn.1.1 in
+    let now = rw (between_step s t left pair two front) at g.2 in
+    let one : (t (get_or pair 0 0) || t (get_or pair 1 0)) ≡ true =
+    elim c.then-is_peak-between.branch [
+      | then-is_peak-between-via-then-is_peak-between w ↦ rw w.if-is_peak-between.true
+      | then-is_peak-between-via-else-is_peak-between+then-is_peak-between-2 w ↦ rw (w.if-is_peak-between.false, w.if-is_peak-between-2.true)
     ] in
-    (omega arith, pick_room _ _ _ _ s one few)
-
-pub loop-i-preserved : goal.loop-i-preserved
-loop-i-preserved c =
-    let t = mark_at c.args.is_peak.now in
     let kept = c.args.kept.now in
-    let s = rw (between_step c.args.s.now t kept c.loop-i.i (omega arith) c.loop-i-test.true) at c.loop-i.invariant in
-    elim c.if-is_peak-a.branch [
-      | then-is_peak-a w ↦
-          let one : (t (get_or kept (c.loop-i.i - 1) 0) || t (get_or kept c.loop-i.i 0)) ≡ true =
-          elim w.then-is_peak-a.branch [
-            | then-is_peak-a-via-then-is_peak-a v ↦ rw v.if-is_peak-a.true
-            | then-is_peak-a-via-else-is_peak-a+then-is_peak-b v ↦ rw (v.if-is_peak-a.false, v.if-is_peak-b.true)
-          ] in
-          rw (w.edges-is, w.push.ensures.items, w.argmin_middle.ensures) (pick_yes _ _ _ _ s one)
-      | else-is_peak-a+else-is_peak-b w ↦
-          let none : (t (get_or kept (c.loop-i.i - 1) 0) || t (get_or kept c.loop-i.i 0)) ≡ false = rw (w.if-is_peak-a.false, w.if-is_peak-b.false) in
-          rw w.edges-is (pick_no _ _ _ _ s none)
-    ]
+    let few : length (edges_between s t kept) ≤ 2560 = omega (arith, between_few s t kept, strict_few 0 (length s) kept (omega arith) c.requires.1) in
+    (omega arith, pick_room _ _ _ _ now one few)
+
+pub loop-pair-preserved-in-loop-pair : goal.loop-pair-preserved-in-loop-pair
+loop-pair-preserved-in-loop-pair c =
+    let s = c.args.s.now in
+    let t = mark_at c.args.is_peak.now in
+    let turn = c.in-Some.ensures.steps in
+    let g = c.loop-pair.invariant in
+    let left = windows_rest c.loop-pair.pair-iterator in
+    let pair = c.in-Some.pair.now in
+    let two : 2 ≤ length left = omega (arith, turn.1.0, g.0) in
+    let front : pair ≡ take 2 left = rw g.0 at turn.1.1 in
+    let now = rw (between_step s t left pair two front) at g.2 in
+    let one : (t (get_or pair 0 0) || t (get_or pair 1 0)) ≡ true =
+    elim c.then-is_peak-between.branch [
+      | then-is_peak-between-via-then-is_peak-between w ↦ rw w.if-is_peak-between.true
+      | then-is_peak-between-via-else-is_peak-between+then-is_peak-between-2 w ↦ rw (w.if-is_peak-between.false, w.if-is_peak-between-2.true)
+    ] in
+    (turn.0 ∙ g.0, rw turn.1.2 (between_rest s t left pair two front (length s) g.1), rw (turn.1.2, c.push.ensures.items, c.extremum_middle.ensures) (pick_yes _ _ _ _ now one))
+
+pub loop-pair-preserved : goal.loop-pair-preserved
+loop-pair-preserved c =
+    let s = c.args.s.now in
+    let t = mark_at c.args.is_peak.now in
+    let turn = c.in-Some.ensures.steps in
+    let g = c.loop-pair.invariant in
+    let left = windows_rest c.loop-pair.pair-iterator in
+    let pair = c.in-Some.pair.now in
+    let two : 2 ≤ length left = omega (arith, turn.1.0, g.0) in
+    let front : pair ≡ take 2 left = rw g.0 at turn.1.1 in
+    let now = rw (between_step s t left pair two front) at g.2 in
+    let none : (t (get_or pair 0 0) || t (get_or pair 1 0)) ≡ false = rw (c.if-is_peak-between.false, c.if-is_peak-between-2.false) in
+    (turn.0 ∙ g.0, rw turn.1.2 (between_rest s t left pair two front (length s) g.1), rw turn.1.2 (pick_no _ _ _ _ now none))
 
 pub loop-second-init : goal.loop-second-init
-loop-second-init c = rw (sym (append-nil _) ∙ rw (between_over c.args.s.now (mark_at c.args.is_peak.now) c.args.kept.now c.loop-i.i (omega arith)) at c.loop-i.invariant)
+loop-second-init c =
+    let g = c.loop-pair.invariant in
+    let over = between_over c.args.s.now (mark_at c.args.is_peak.now) (windows_rest c.loop-pair.pair-iterator) (rw g.0 at c.in-None.ensures.steps.1.0) in
+    rw (sym (append-nil _) ∙ rw over at g.2)
 
 pub push-requires-in-loop-second : goal.push-requires-in-loop-second
 push-requires-in-loop-second c =

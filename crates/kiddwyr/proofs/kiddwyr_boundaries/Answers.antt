@@ -1,13 +1,9 @@
 -- `kiddwyr_boundaries`: the boundaries under the defaults, around the frames that are read. Assumes nothing.
-use Rattle.lists.proofs.Fill.{listed_fits}
 use Rattle.kiddwyr.proofs.Wrapped.{bounds_done}
 use Rattle.kiddwyr.proofs.kiddwyr_boundaries.Goals as goal
-
-pub boundaries_given-requires : goal.boundaries_given-requires
-boundaries_given-requires c = listed_fits c.take_frames-count.ensures
 
 pub returns : goal.returns
 returns c =
     let a = c.args in
-    let e = rw (← c.from.ensures) at c.boundaries_given.ensures in
-    bounds_done a.nuclei.now 0 c.take_frames-count.ensures a.db.now a.pitch.now a.voiced.now a.start a.end e
+    let e = rw (← c.from.ensures, c.deref.ensures.0) at c.boundaries.ensures in
+    bounds_done a.nuclei.now c.frames_of-given.ensures a.db.now a.pitch.now a.voiced.now a.start a.end e

@@ -1,15 +1,15 @@
 -- `kiddwyr_chain`: what plain lists hold after the chain, as records. Assumes nothing.
 use Rattle.chain.specs.Chain.{take_of}
 use Rattle.kiddwyr.specs.Records.{lists_of}
-use Rattle.kiddwyr.proofs.Wrapped.{laid_room}
+use Rattle.kiddwyr.proofs.Wrapped.{laid_parts}
 use Rattle.kiddwyr.proofs.Chained.{recorded}
 use Rattle.kiddwyr.proofs.kiddwyr_chain.Goals as goal
 
 pub fill_nuclei-requires : goal.fill_nuclei-requires
-fill_nuclei-requires c = let e = rw (← c.from-marks.ensures) at c.chain_within.ensures in laid_room e.2
+fill_nuclei-requires c = let e = rw (← c.from-marks.ensures) at c.chain_within.ensures in laid_parts {f = c.chain_within.new.frames} {s = c.chain_within.new.strengths} e.2
 
 pub fill_nuclei-requires-2 : goal.fill_nuclei-requires-2
-fill_nuclei-requires-2 c = let e = rw (← c.from-marks.ensures) at c.chain_within.ensures in laid_room e.3
+fill_nuclei-requires-2 c = let e = rw (← c.from-marks.ensures) at c.chain_within.ensures in laid_parts {f = c.chain_within.new.xframes} {s = c.chain_within.new.xstrengths} e.3
 
 pub returns : goal.returns
 returns c =

@@ -1,13 +1,10 @@
--- `recover_pitch` meets its contract: the two steps one after the other. Assumes nothing.
+-- `recover_pitch` meets its contract: where no frame is tried, the track stays. Assumes nothing.
+use Rattle.std.proofs.Common.{sym, ◌∙◌}
 use Rattle.nsdf.specs.Period.{period_hz}
-use Rattle.nsdf.proofs.Range.{period_range}
-use Rattle.recover.specs.Recovered.{recovered_by}
-use Rattle.recover.proofs.Trying.{estimates_range}
+use Rattle.recover.proofs.Kept.{untried_kept}
 use Rattle.recover.proofs.recover_pitch.Goals as goal
 
-pub recover_stretches-requires-clause-each : goal.recover_stretches-requires-clause-each
-recover_stretches-requires-clause-each c = rw c.estimates.ensures (estimates_range (period_hz c.args.samples.now) _ _ _ (period_range c.args.samples.now))
-
-pub returns : goal.returns
-unfolding recovered_by
-returns c = rw (c.recover_stretches.ensures, c.estimates.ensures, c.copy_from_slice.ensures.after)
+pub returns-else-has_tried : goal.returns-else-has_tried
+returns-else-has_tried c =
+    let a = c.args in
+    sym (untried_kept (period_hz a.samples.now) a.pitch.now a.speech.now a.vowel.now (sym c.has_tried.ensures ∙ c.if-has_tried.false))

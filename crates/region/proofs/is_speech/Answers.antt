@@ -1,13 +1,9 @@
 -- `region::is_speech` meets its contract. Assumes nothing.
 use Rattle.std.proofs.Common.{◌≡◌, true, false, refl, ◌∙◌}
 use mathlib.Core.Bool.{false≢true}
-use lib.Ieee.{Float, nan, inf, fin, binary32, lt, of_bits, nan_bits}
+use lib.Ieee.{Float, nan, inf, fin, binary32, lt, of_bits}
 use Rattle.region.specs.Speech.{speech}
 use Rattle.region.proofs.is_speech.Goals as goal
-
-pub float_from_bits-result : goal.float_from_bits-result
-unfolding nan_bits
-float_from_bits-result c = tt
 
 above : (t d : Float) → lt t d ≡ true → lt d (of_bits binary32 2139095040) ≡ speech t d
 unfolding lt of_bits

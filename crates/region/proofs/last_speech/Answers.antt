@@ -12,8 +12,10 @@ back i h = omega arith
 pub returns-then-is_speech : goal.returns-then-is_speech
 returns-then-is_speech c =
     let v = c.loop-i in
-    let t = speech_at c.args.threshold c.args.db.now in
-    sym (last_here t (v.i - 1) (sym c.is_speech.ensures ∙ c.if-is_speech.true)) ∙ ap (λ (n : ℕ). last_of 0 (keep t 0 n)) (back v.i c.loop-i-test.true) ∙ ap (last_of 0) v.invariant
+    let t = speech_at c.args.threshold c.args.db.now in (
+      sym (last_here t (v.i - 1) (sym c.is_speech.ensures ∙ c.if-is_speech.true)) ∙ ap (λ (n : ℕ). last_of 0 (keep t 0 n)) (back v.i c.loop-i-test.true) ∙ ap (last_of 0) v.invariant,
+      omega arith,
+    )
 
 pub loop-i-preserved : goal.loop-i-preserved
 loop-i-preserved c =

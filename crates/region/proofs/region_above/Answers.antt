@@ -14,9 +14,9 @@ enough c = omega (arith, c.speech_count.ensures)
 pub overflow_add-end : goal.overflow_add-end
 overflow_add-end c =
     let h = enough (goal.at.overflow_add-end c).After-last_speech in
-    omega (arith, c.in_ok-end.ensures, last_within c.args.threshold c.args.db.now (omega (arith, h)))
+    omega (arith, c.in_ok-end.ensures.0, last_within c.args.threshold c.args.db.now (omega (arith, h)))
 
 pub returns : goal.returns
 returns c =
-    ap₂ (λ (a b : ℕ). Some (spanning a (b + 1))) c.in_ok-start.ensures c.in_ok-end.ensures
+    ap₂ (λ (a b : ℕ). Some (spanning a (b + 1))) c.in_ok-start.ensures.0 c.in_ok-end.ensures.0
     ∙ many (speech_frames c.args.threshold c.args.db.now) (enough (goal.at.returns c).After-last_speech)

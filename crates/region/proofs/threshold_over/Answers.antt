@@ -1,16 +1,17 @@
 -- `region::threshold_over` meets its contract. Assumes nothing.
-use Rattle.std.proofs.Common.{◌≡◌, false, Option, sym, refl, ap, ◌∙◌}
-use lib.Ieee.{Float, inf, binary32, of_bits, nan_bits}
+use Rattle.std.proofs.Common.{rules, ◌≡◌, false, Option, None, Some, refl, ◌∙◌}
+use lib.Ieee.{Float, inf, binary32, of_bits, add}
+use Rattle.std.specs.Prelude.{MatchOption}
 use Rattle.region.specs.Speech.{threshold_over}
 use Rattle.region.proofs.threshold_over.Goals as goal
-
-pub float_from_bits-result : goal.float_from_bits-result
-unfolding nan_bits
-float_from_bits-result c = tt
 
 infinity : of_bits binary32 2139095040 ≡ inf false
 unfolding of_bits
 infinity = refl
 
-pub returns-in-None : goal.returns-in-None
-returns-in-None c = infinity ∙ ap (λ (f : Option Float). threshold_over f c.args.margin) (sym c.in-None.is)
+mapped : (floor : Option Float) (margin r : Float) {P : Float → Type 0} → MatchOption floor (r ≡ of_bits binary32 2139095040) P → ((x : Float) → P x → r ≡ add binary32 x margin) → r ≡ threshold_over floor margin
+mapped None margin r m f = m ∙ infinity
+mapped (Some x) margin r m f = f x m
+
+pub returns : goal.returns
+returns c = mapped c.args.floor c.args.margin c.map_or.result c.map_or.ensures (λ x p. search rules)

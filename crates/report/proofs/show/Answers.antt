@@ -3,19 +3,16 @@ use native.Mathlib.Omega.{arith}
 use mathlib.Core.Path.{◌∙◌}
 use Rattle.admit.specs.Numbers.{number_at}
 use Rattle.take.proofs.Sizes.{refused_fits}
-use Rattle.chain.specs.Chain.{lists_of}
+use Rattle.report.specs.Answered.{lists_in}
 use Rattle.report.proofs.Parts.{front_fits, front_shown, refused_shown}
 use Rattle.report.proofs.show.Goals as goal
 
 pub listing-requires : goal.listing-requires
 listing-requires c =
     let a = c.args in
-    let l = lists_of a.frames.now a.strengths.now a.xframes.now a.xstrengths.now a.edges.now a.bounds.now in (
+    let l = a.call in (
       omega arith,
-      (
-        (omega arith, omega arith),
-        front_fits a.given.now a.left.now l c.requires.given_len.1 c.in-Ok.m.region c.min-a.result c.min-b.result c.min-c.result c.min-d.result,
-      ),
+      front_fits a.given.now l.pitch.now (lists_in l) l.fitting c.in-Ok.m.region c.min-a.result c.min-b.result c.min-c.result c.min-d.result,
     )
 
 pub refused-requires : goal.refused-requires
@@ -24,11 +21,11 @@ refused-requires c = (omega arith, omega (arith, refused_fits (number_at c.in-Er
 pub returns-in-Ok : goal.returns-in-Ok
 returns-in-Ok c =
     let a = c.args in
-    let l = lists_of a.frames.now a.strengths.now a.xframes.now a.xstrengths.now a.edges.now a.bounds.now in
-    rw c.in-Ok.is (c.listing.ensures ∙ front_shown a.given.now a.left.now l c.requires.given_len.1 c.in-Ok.m c.min-a.ensures c.min-b.ensures c.min-c.ensures c.min-d.ensures)
+    let l = a.call in
+    rw c.in-Ok.is (c.listing.ensures ∙ front_shown a.given.now l.pitch.now (lists_in l) l.fitting c.in-Ok.m c.min-a.ensures c.min-b.ensures c.min-c.ensures c.min-d.ensures)
 
 pub returns-in-Err : goal.returns-in-Err
 returns-in-Err c =
     let a = c.args in
-    let l = lists_of a.frames.now a.strengths.now a.xframes.now a.xstrengths.now a.edges.now a.bounds.now in
-    rw c.in-Err.is (c.refused.ensures ∙ refused_shown a.given.now a.left.now l c.in-Err.refusal)
+    let l = a.call in
+    rw c.in-Err.is (c.refused.ensures ∙ refused_shown a.given.now l.pitch.now (lists_in l) c.in-Err.refusal)

@@ -6,6 +6,5 @@ use Rattle.boundaries.proofs.joints.lowest_joint.Goals as goal
 
 pub overflow_cast-result : goal.overflow_cast-result
 overflow_cast-result c =
-    let args = c.args in
-    let pre = c.requires in
-    omega (arith, c.argmin_middle.ensures, middle_within Min args.level.now args.a args.b pre.0 pre.1)
+    let part = c.args.between in
+    omega (arith, c.extremum_middle.ensures, middle_within Min part.s.now part.a part.b part.inside.0 part.inside.1)

@@ -17,10 +17,10 @@ pub long_spans-spans-requires : goal.long_spans-spans-requires
 long_spans-spans-requires c = rw (c.deref.ensures.0 ∙ c.frames.ensures) (frames_rise c.args.kept.now.marks (length c.args.level.now) c.requires)
 
 pub bounds-spans-i : goal.bounds-spans-i
-bounds-spans-i c = omega (arith, mins_below c.args.level.now (c.as_slice-m-items.ensures.value ∙ c.local_extrema-minima.ensures) c.loop-m.m-index c.loop-m-test.true)
+bounds-spans-i c = omega (arith, mins_below c.args.level.now (c.as_slice-m-items.ensures.value ∙ c.local_extrema.ensures) c.loop-m.m-index c.loop-m-test.true)
 
 pub prominence-requires : goal.prominence-requires
-prominence-requires c = mins_below c.args.level.now (c.as_slice-m-items.ensures.value ∙ c.local_extrema-minima.ensures) c.loop-m.m-index c.loop-m-test.true
+prominence-requires c = mins_below c.args.level.now (c.as_slice-m-items.ensures.value ∙ c.local_extrema.ensures) c.loop-m.m-index c.loop-m-test.true
 
 pub push-requires : goal.push-requires
 push-requires c =
@@ -44,7 +44,7 @@ loop-m-preserved c =
 keys_are : (c : After-deref_mut) → c.deref_mut.result.now ≡ map key_of (minima c.args.level.now (marked c.args.skip.now) (taken_frames c.args.kept.now.marks (length c.args.level.now)))
 keys_are c =
     let t = λ (i : ℕ). marked c.long_spans-spans.result i && not (marked c.args.skip.now i) in
-    minima_keys c.args.level.now (c.as_slice-m-items.ensures.value ∙ c.local_extrema-minima.ensures) (marked c.args.skip.now) (taken_frames c.args.kept.now.marks (length c.args.level.now))
+    minima_keys c.args.level.now (c.as_slice-m-items.ensures.value ∙ c.local_extrema.ensures) (marked c.args.skip.now) (taken_frames c.args.kept.now.marks (length c.args.level.now))
     (c.long_spans-spans.ensures ∙ ap in_long_span (c.deref.ensures.0 ∙ c.frames.ensures)) (keyed_end c.args.level.now t _ _ _ c.loop-m.invariant c.loop-m-test.false) c.deref_mut.ensures.value
 
 pub add_sorted-requires : goal.add_sorted-requires

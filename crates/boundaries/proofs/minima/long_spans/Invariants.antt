@@ -1,9 +1,6 @@
--- `boundaries::minima::long_spans` meets its contract. The loop's invariant: the spans from the entry before i on are left to mark. Assumes nothing.
-use Prim.Native.Nat.{◌-◌}
-use lib.ListN.{drop}
-use Rattle.boundaries.specs.Minima.{in_long_span}
-use Rattle.boundaries.proofs.Spreading.{Spreading}
+-- `boundaries::minima::long_spans` meets its contract. The loop's invariant: the spans of what the iterator has left are left to mark. Assumes nothing.
+use Rattle.boundaries.proofs.Spreading.{Spans}
 use Rattle.boundaries.proofs.minima.long_spans.Given as goal
 
-abbrev pub invariant-loop-i : goal.invariant-loop-i
-invariant-loop-i l = Spreading (in_long_span l.kept) (in_long_span (drop (l.i - 1) l.kept)) l.marks
+abbrev pub invariant-loop-span : goal.invariant-loop-span
+invariant-loop-span l = Spans l.kept l.span-iterator.rest.now l.span-iterator.size l.marks

@@ -1,19 +1,7 @@
 -- `stages::boundaries` meets its contract. Assumes nothing.
-use mathlib.Core.Path.{sym}
-use Rattle.std.proofs.lemmas.Result.{err_from_is_err_and}
-use Rattle.admit.proofs.Admitted.{boundaries_admitted}
-use Rattle.entries.proofs.Entering.{finds, refuses}
+use Rattle.admit.specs.Refusals.{boundaries_refusal}
 use Rattle.entries.proofs.stages.boundaries.Goals as goal
 
-pub returns-in_err-boundaries_refusal : goal.returns-in_err-boundaries_refusal
-returns-in_err-boundaries_refusal c =
-    let p = err_from_is_err_and c.from_residual.result c.from_residual.ensures.1 in
-    rw (p.1, p.2) (refuses _ _ c.in_err-boundaries_refusal.ensures)
-
-pub boundaries-requires : goal.boundaries-requires
-boundaries-requires c =
-    let a = boundaries_admitted _ _ _ _ _ _ _ (sym c.in_ok-boundaries_refusal.ensures) in
-    record { start_le_end = a.0; strictly_rises = a.1.0; db_in_bounds = a.1.1 }
-
 pub returns : goal.returns
-returns c = finds _ c.in_ok-boundaries_refusal.ensures c.boundaries.ensures
+unfolding boundaries_refusal
+returns c = rw c.default_settings.ensures at c.boundaries_with.ensures

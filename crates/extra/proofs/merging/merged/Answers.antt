@@ -11,18 +11,28 @@ use Rattle.extra.proofs.merging.merged.Goals as goal
 use Rattle.extra.proofs.merging.merged.Goals.{then-is_nucleus-i, then-is_nucleus-i-via-then-is_nucleus-i, then-is_nucleus-i-via-else-is_nucleus-i+then-is_peak-i, else-is_nucleus-i+else-is_peak-i}
 
 pub loop-i-init : goal.loop-i-init
-loop-i-init c = rw c.new-kept.ensures (merging_start _ _ _ _ _)
+loop-i-init g c = rw c.clear.ensures (merging_start _ _ _ _ _)
 
-pub push_merging-requires-clause-room : goal.push_merging-requires-clause-room
-push_merging-requires-clause-room c = omega (arith, merging_few _ _ _ _ _ c.loop-i.invariant)
-
-pub push_merging-requires-clause-picks : goal.push_merging-requires-clause-picks
-push_merging-requires-clause-picks c = λ a b r h k p.
-    let e : r ≡ survivor c.args.s.now (mark_at c.marks-is_peak.result) a b = search rules in
-    rw e (survivor_picks c.args.s.now (mark_at c.marks-is_peak.result) a b)
+pub push_merging-requires : goal.push_merging-requires
+push_merging-requires g c =
+    let so = c.loop-i.invariant in (
+      omega arith,
+      (
+        omega (arith, merging_few _ _ _ _ _ so),
+        (
+          so.order,
+          (
+            (λ a b h k. search rules),
+            (λ a b r h k p.
+                let e : r ≡ survivor c.args.s.now (mark_at c.marks-is_peak.result) a b = search rules in
+                rw e (survivor_picks c.args.s.now (mark_at c.marks-is_peak.result) a b)),
+          ),
+        ),
+      ),
+    )
 
 pub loop-i-preserved : goal.loop-i-preserved
-loop-i-preserved c =
+loop-i-preserved g c =
     let n = c.marks-is_nucleus.ensures c.loop-i.i (omega arith) in
     let k = c.marks-is_peak.ensures c.loop-i.i (omega arith) in
     let m = member_append c.args.nuclei.now c.args.peaks.now c.loop-i.i in
@@ -42,7 +52,7 @@ loop-i-preserved c =
 
 pub returns : goal.returns
 unfolding anchors
-returns c =
+returns g c =
     let m = c.marks-is_peak in
     let k : length m.result ≡ 2048 = search (rules, m.type_inv) in
     let e = marked_is c.args.peaks.now m.result m.ensures k (strict_below 0 2048 c.args.peaks.now (strict_to 0 (length c.args.s.now) 2048 c.args.peaks.now c.requires.0 c.requires.1)) in

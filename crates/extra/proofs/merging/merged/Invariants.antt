@@ -7,4 +7,4 @@ use Rattle.extra.proofs.Anchoring.{survivor_picks}
 use Rattle.extra.proofs.merging.merged.Given as goal
 
 abbrev pub invariant-loop-i : goal.invariant-loop-i
-invariant-loop-i l = Merging (one_syllable l.s l.p (mark_at l.is_peak)) (survivor l.s (mark_at l.is_peak)) (survivor_picks l.s (mark_at l.is_peak)) (l.nuclei ++ l.peaks) (length l.s) l.kept.items l.i
+invariant-loop-i g l = Merging (one_syllable l.s l.p (mark_at l.is_peak)) (survivor l.s (mark_at l.is_peak)) (survivor_picks l.s (mark_at l.is_peak)) (l.nuclei ++ l.peaks) (length l.s) l.kept.items l.i

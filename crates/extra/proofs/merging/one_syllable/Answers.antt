@@ -16,8 +16,8 @@ pub returns-else-x-prev : goal.returns-else-x-prev
 unfolding one_syllable
 returns-else-x-prev c =
     elim c.then-is_peak-prev.branch [
-      | then-is_peak-prev-via-then-is_peak-prev w ↦ rw (w.if-is_peak-prev.true, le-ltb _ _ c.if-x-prev.false) c.shallow_valley.ensures
-      | then-is_peak-prev-via-else-is_peak-prev+then-is_peak-x w ↦ rw (w.if-is_peak-prev.false, w.if-is_peak-x.true, le-ltb _ _ c.if-x-prev.false) c.shallow_valley.ensures
+      | then-is_peak-prev-via-then-is_peak-prev w ↦ rw (w.if-is_peak-prev.true, le-ltb _ _ c.if-x-prev.false) c.is_shallow.ensures
+      | then-is_peak-prev-via-else-is_peak-prev+then-is_peak-x w ↦ rw (w.if-is_peak-prev.false, w.if-is_peak-x.true, le-ltb _ _ c.if-x-prev.false) c.is_shallow.ensures
     ]
 
 pub returns : goal.returns

@@ -1,15 +1,17 @@
--- `extra::seconds::one_held` meets its contract. Assumes nothing.
-use mathlib.Core.Path.{sym, ◌∙◌}
-use Rattle.extra.proofs.Holding.{held_none, held_one, held_more}
+-- `extra::seconds::one_held` meets its contract: the first two of the frames tell. Assumes nothing.
+use Rattle.std.proofs.Common.{arith, rules}
+use Rattle.extra.proofs.Holding.{held_two, held_first, held_none}
 use Rattle.extra.proofs.seconds.one_held.Goals as goal
-use Rattle.extra.proofs.seconds.one_held.Goals.{else-reaches-via-then-reaches+else-not-reaches, else-reaches-via-else-reaches}
 
-pub returns-then-not-reaches : goal.returns-then-not-reaches
-returns-then-not-reaches c = held_one _ _ _ _ c.requires.2 c.requires.3 (sym c.reaches.ensures ∙ c.if-reaches.true) (sym c.reaches-then-reaches.ensures ∙ c.if-not-reaches.true)
+pub returns-in-len2-up : goal.returns-in-len2-up
+returns-in-len2-up c = held_two _ _ _ c.requires.2 c.requires.3 c.in-len2-up.len_at_least c.if-second-end.true
 
-pub returns-else-reaches : goal.returns-else-reaches
-returns-else-reaches c =
-    elim c.else-reaches.branch [
-      | else-reaches-via-then-reaches+else-not-reaches w ↦ held_more _ _ _ _ c.requires.2 c.requires.3 (sym c.reaches.ensures ∙ w.if-reaches.true) (sym w.reaches-then-reaches.ensures ∙ w.if-not-reaches.false)
-      | else-reaches-via-else-reaches w ↦ held_none _ _ _ _ c.requires.2 c.requires.3 (sym c.reaches.ensures ∙ w.if-reaches.false)
-    ]
+pub returns-in-len1-up : goal.returns-in-len1-up
+returns-in-len1-up c =
+    held_first _ _ _ c.requires.2 c.requires.3 (search rules) c.if-first-end.true (λ l. search rules)
+
+pub returns-in_default : goal.returns-in_default
+returns-in_default c = held_none _ _ _ c.requires.2 (λ l. absurd (omega (arith, c.in_default.len_below)))
+
+pub returns-in_default-2 : goal.returns-in_default-2
+returns-in_default-2 c = held_none _ _ _ c.requires.2 (λ l. c.if-first-end.false)

@@ -1,28 +1,34 @@
 -- `extra::seconds::seconds_of` meets its contract: the runs and the kept frames are walked together, by `Walking`. Assumes nothing.
 use native.Mathlib.Omega.{arith}
-use Prim.Native.Nat.{◌≤◌}
-use mathlib.Core.Path.{sym, ◌∙◌}
-use lib.ListN.{length}
-use Rattle.extra.specs.Seconds.{seconds}
-use Rattle.extra.proofs.Holding.{seconds_room, walk_passed, walk_some, walk_none, walk_room, walk_end}
+use mathlib.Core.Path.{refl, sym, ◌∙◌}
+use Rattle.extra.proofs.Holding.{serves_all, seconds_few, walk_within, walk_some, walk_none, walk_room, walk_end}
 use Rattle.extra.proofs.seconds.seconds_of.Goals as goal
 use Rattle.extra.proofs.seconds.seconds_of.Goals.{in-Some, in_default}
 
-pub skip_to-q-requires : goal.skip_to-q-requires
-skip_to-q-requires c = walk_passed _ _ _ _ _ c.loop-run-test.true c.loop-run.invariant
+pub loop-run-init : goal.loop-run-init
+loop-run-init g c = rw c.clear.ensures (record { lo = 0; serves = serves_all _ _ c.requires.1; spaced = c.requires.2; whole = refl })
+
+pub skip_to-rest-requires : goal.skip_to-rest-requires
+skip_to-rest-requires g c = c.loop-run.invariant.serves.rises
+
+pub second_in-requires : goal.second_in-requires
+second_in-requires g c =
+    let w = walk_within _ _ _ _ _ c.loop-run-test.true c.loop-run.invariant in
+    let l = c.skip_to-rest.ensures in
+    (w.0, w.1, c.requires.0, l.serves.rises, l.onward)
 
 pub push-requires : goal.push-requires
-push-requires c =
-    let few : length (seconds c.args.son.now c.args.kept.now c.args.runs.now) ≤ 512 = seconds_room c.args.son.now c.args.kept.now (length c.args.son.now) c.args.runs.now c.requires.0 c.requires.2 in
-    (omega arith, walk_room _ _ _ _ _ c.loop-run-test.true c.loop-run.invariant _ (sym c.second_in.ensures ∙ c.in-Some.is) few)
+push-requires g c =
+    let few = seconds_few c.args.son.now c.args.kept.now c.args.runs.now in
+    (omega arith, walk_room _ _ _ _ _ c.loop-run-test.true c.loop-run.invariant c.skip_to-rest.ensures _ (sym c.second_in.ensures ∙ c.in-Some.is) _ (omega (arith, few)))
 
 pub loop-run-preserved : goal.loop-run-preserved
-loop-run-preserved c =
-    let p = c.skip_to-q.ensures.passed in
+loop-run-preserved g c =
+    let l = c.skip_to-rest.ensures in
     elim c.match-second_in.branch [
-      | in-Some w ↦ rw (w.seconds-is, w.push.ensures.items) (walk_some _ _ _ _ _ c.loop-run-test.true c.loop-run.invariant p _ (sym c.second_in.ensures ∙ w.in-Some.is))
-      | in_default w ↦ rw w.seconds-is (walk_none _ _ _ _ _ c.loop-run-test.true c.loop-run.invariant p (sym c.second_in.ensures ∙ w.in_default.is))
+      | in-Some w ↦ rw (w.found-is, w.push.ensures.items) (walk_some _ _ _ _ _ c.loop-run-test.true c.loop-run.invariant l _ (sym c.second_in.ensures ∙ w.in-Some.is))
+      | in_default w ↦ rw w.found-is (walk_none _ _ _ _ _ c.loop-run-test.true c.loop-run.invariant l (sym c.second_in.ensures ∙ w.in_default.is))
     ]
 
 pub returns : goal.returns
-returns c = walk_end _ _ _ _ c.loop-run-test.false c.loop-run.invariant
+returns g c = walk_end _ _ _ _ c.loop-run-test.false c.loop-run.invariant

@@ -4,4 +4,4 @@ use Rattle.extra.proofs.Holding.{Walking}
 use Rattle.extra.proofs.seconds.seconds_of.Given as goal
 
 abbrev pub invariant-loop-run : goal.invariant-loop-run
-invariant-loop-run l = Walking l.son l.kept (length l.son) l.runs l.seconds.items l.q l.run-index
+invariant-loop-run g l = Walking l.son l.kept (length l.son) l.runs l.found.items l.rest l.run-index

@@ -3,4 +3,4 @@ use Rattle.nsdf.proofs.Peaks.{Measuring}
 use Rattle.nsdf.proofs.period.measured.Given as goal
 
 abbrev pub invariant-loop-k : goal.invariant-loop-k
-invariant-loop-k l = Measuring l.window l.initial.d l.d l.k
+invariant-loop-k l = Measuring l.window.samples.now l.initial.d l.d l.k

@@ -1,6 +1,7 @@
 -- `nuclei::merging::push_merging` meets its contract; the measure is the count of the kept frames. Assumes nothing.
 use native.Mathlib.Omega.{arith}
 use Prim.Native.Nat.{◌<◌}
+use contract.BorrowLft.{⊑_static}
 use mathlib.Core.Path.{refl, sym, ◌∙◌}
 use Rattle.nuclei.proofs.Merge.{rest_fewer, falls_prev, falls_left, left_within, merge_none, merge_pop, merge_push}
 use Rattle.nuclei.proofs.merging.+push_merging.Goals as goal
@@ -22,12 +23,18 @@ push_merging-requires g t c κs within =
         (
           within.1,
           (
-            omega arith,
+            ⊑_static _,
             (
-              falls_left _ _ prev last c.pop.ensures.rest c.args.x c.requires.later c.stays.result picked,
+              omega arith,
               (
-                (λ a b h k. c.requires.asks a b h (omega arith)),
-                (λ a b r h k p. c.requires.picks a b r h (omega arith) p),
+                omega arith,
+                (
+                  falls_left _ _ prev last c.pop.ensures.rest c.args.x c.requires.later c.stays.result picked,
+                  (
+                    (λ a b h k. c.requires.asks a b h (omega arith)),
+                    (λ a b r h k p. c.requires.picks a b r h (omega arith) p),
+                  ),
+                ),
               ),
             ),
           ),

@@ -6,4 +6,4 @@ use Rattle.nuclei.proofs.Merge.{Merging}
 use Rattle.nuclei.proofs.merging.merged.Given as goal
 
 abbrev pub invariant-loop-i : goal.invariant-loop-i
-invariant-loop-i l = Merging (one_nucleus l.s l.syllables l.p) (louder l.s) (louder_picks l.s) l.cands (length l.s) l.kept.items l.i
+invariant-loop-i g l = Merging (one_nucleus l.s l.syllables l.p) (louder l.s) (louder_picks l.s) l.cands (length l.s) l.kept.items l.i

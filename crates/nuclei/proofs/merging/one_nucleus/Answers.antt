@@ -9,10 +9,10 @@ pub returns-then-x-prev : goal.returns-then-x-prev
 unfolding one_nucleus
 returns-then-x-prev c = rw (lt-ltb _ _ c.if-x-prev.true)
 
-pub returns-then-shallow_valley : goal.returns-then-shallow_valley
+pub returns-then-is_shallow : goal.returns-then-is_shallow
 unfolding one_nucleus
-returns-then-shallow_valley c = rw (le-ltb _ _ c.if-x-prev.false, sym c.shallow_valley.ensures ∙ c.if-shallow_valley.true) (ap not c.in_separate_runs.ensures)
+returns-then-is_shallow c = rw (le-ltb _ _ c.if-x-prev.false, sym c.is_shallow.ensures ∙ c.if-is_shallow.true) (ap not c.in_separate_runs.ensures)
 
-pub returns-else-shallow_valley : goal.returns-else-shallow_valley
+pub returns-else-is_shallow : goal.returns-else-is_shallow
 unfolding one_nucleus
-returns-else-shallow_valley c = c.if-shallow_valley.false ∙ rw (le-ltb _ _ c.if-x-prev.false, sym c.shallow_valley.ensures ∙ c.if-shallow_valley.false)
+returns-else-is_shallow c = c.if-is_shallow.false ∙ rw (le-ltb _ _ c.if-x-prev.false, sym c.is_shallow.ensures ∙ c.if-is_shallow.false)

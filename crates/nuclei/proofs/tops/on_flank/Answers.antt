@@ -1,17 +1,19 @@
--- `nuclei::tops::on_flank` meets its contract: what is left of the frames decides. Assumes nothing.
-use Rattle.lists.proofs.Walks.{look_yes, look_on, look_end}
+-- `nuclei::tops::on_flank` meets its contract: what the library answers of the frames. Assumes nothing.
+use Prim.Native.Nat.{ℕ}
+use lib.Ieee.{lt, add, binary32}
+use Rattle.std.proofs.Common.{rules, tests, refl, ◌∙◌, ◌-◌}
+use Rattle.std.proofs.lemmas.Iterator.{YieldsList-from_range}
+use Rattle.std.proofs.lemmas.Iterator.Search.{any_from_yields_List}
+use Rattle.lists.proofs.Ranges.{any_frame}
+use Rattle.lists.specs.Frames.{at}
 use Rattle.nuclei.specs.Tops.{on_flank}
 use Rattle.nuclei.proofs.tops.on_flank.Goals as goal
 
-pub loop-i-init : goal.loop-i-init
-unfolding on_flank
-loop-i-init c = record { same = rw (c.near_start-i.ensures, c.near_end-i-end.ensures) }
-
-pub returns-then-most-s : goal.returns-then-most-s
-returns-then-most-s c = look_yes c.loop-i.invariant c.loop-i-test.true c.if-most-s.true
-
-pub loop-i-preserved : goal.loop-i-preserved
-loop-i-preserved c = look_on c.loop-i.invariant c.loop-i-test.true c.if-most-s.false
-
 pub returns : goal.returns
-returns c = look_end c.loop-i.invariant c.loop-i-test.false
+unfolding on_flank
+returns c =
+    let a = c.near_start.result in
+    let b = c.near_end.result in
+    let t = λ (j : ℕ). lt (add binary32 (at c.args.s.now c.args.at) c.args.dip) (at c.args.s.now j) in
+    any_from_yields_List t _ _ c.any.result c.any.ensures.ran (YieldsList-from_range a b (b - a) refl refl) (λ x r q k. search (rules, tests))
+    ∙ (any_frame t a (b - a) ∙ rw (c.near_start.ensures, c.near_end.ensures))

@@ -6,9 +6,9 @@ use Rattle.recover.proofs.estimates.estimates.Goals as goal
 pub loop-i-init : goal.loop-i-init
 loop-i-init c =
     let a = c.args in
-    trying_start (period_hz a.samples.now) a.pitch.now a.speech.now a.vowel.now c.requires.out_len
+    trying_start (period_hz a.samples.now) a.track.pitch.now a.track.speech.now a.track.vowel.now c.requires.out_len
 
 pub loop-i-preserved : goal.loop-i-preserved
 loop-i-preserved c =
     let a = c.args in
-    trying_more (period_hz a.samples.now) a.pitch.now a.speech.now a.vowel.now c.estimate_at.result c.loop-i-test.true c.estimate_at.ensures c.loop-i.invariant
+    trying_more (period_hz a.samples.now) a.track.pitch.now a.track.speech.now a.track.vowel.now c.estimate_at.result c.loop-i-test.true c.estimate_at.ensures c.loop-i.invariant

@@ -4,4 +4,4 @@ use Rattle.recover.proofs.Trying.{Trying}
 use Rattle.recover.proofs.estimates.estimates.Given as goal
 
 abbrev pub invariant-loop-i : goal.invariant-loop-i
-invariant-loop-i l = Trying (period_hz l.samples) l.pitch l.speech l.vowel l.initial.out l.out l.i
+invariant-loop-i l = Trying (period_hz l.samples) l.track.pitch.now l.track.speech.now l.track.vowel.now l.initial.out l.out l.i

@@ -1,21 +1,19 @@
--- `smooth::extrema::flat_last` meets its contract. The loop's invariant: the value changes after no frame from i to before last. Assumes nothing.
+-- `smooth::extrema::flat_last` meets its contract: the first frame after which the value changes, or else the last one. Assumes nothing.
+use Prim.Native.Nat.{◌-◌}
 use native.Mathlib.Omega.{arith}
-use mathlib.Core.Path.{◌≡◌, sym, ◌∙◌}
-use Rattle.lists.proofs.Walks.{seek_start, seek_past, seek_stop, seek_end}
+use mathlib.Core.Path.{◌≡◌, sym, ap, ◌∙◌}
+use Rattle.std.proofs.Common.{rules}
+use Rattle.std.specs.Prelude.{unwrap_or, Option, ℕ}
+use Rattle.lists.proofs.Walks.{first_is}
+use Rattle.lists.proofs.Firsts.{first_or}
+use Rattle.smooth.specs.Extrema.{changes_after, flat_last}
 use Rattle.smooth.proofs.extrema.flat_last.Goals as goal
-
-pub loop-last-init : goal.loop-last-init
-loop-last-init c =
-    let f = c.flat_blocks-last in
-    seek_past _ _ _ (seek_start _ _ _ c.requires.0) _ f.ensures.1 (sym f.ensures.2)
-
-pub returns-then-s-last : goal.returns-then-s-last
-returns-then-s-last c =
-    let l = c.loop-last.invariant in
-    (seek_stop _ _ _ l c.if-s-last.true, (l.low, l.high))
 
 pub returns : goal.returns
 returns c =
-    let l = c.loop-last in
-    let e : c.args.b ≡ l.last = omega arith in
-    (e ∙ seek_end _ _ _ l.invariant c.loop-last-test.false, (omega arith, omega arith))
+    let a = c.args in
+    let t = changes_after a.s.now in
+    let found = c.first_from.ensures t (λ k low high r q. search rules) in
+    let same : c.unwrap_or.result ≡ flat_last a.s.now a.i (a.b - a.i) = c.unwrap_or.ensures ∙ ap (λ (o : Option ℕ). unwrap_or o a.b) found ∙ sym (first_or t a.i a.b c.requires.0) in
+    let f = first_is t a.i (a.b - a.i) in
+    (same, (omega (arith, same, f.low), omega (arith, same, f.high, c.requires.0)))

@@ -1,14 +1,14 @@
--- `boundaries::edges::Speech::fills` meets its contract. The loop's invariant: the frames from i on are left to test. Assumes nothing.
-use mathlib.Core.Path.{sym, ◌∙◌}
-use Rattle.lists.proofs.Walks.{all_on, all_stop, all_over}
+-- `boundaries::edges::Speech::fills` meets its contract: what the library answers of the frames. Assumes nothing.
+use Rattle.std.proofs.Common.{rules, tests, refl, ◌∙◌, ◌-◌}
+use Rattle.std.proofs.lemmas.Iterator.{YieldsList-from_range}
+use Rattle.std.proofs.lemmas.Iterator.Search.{all_from_yields_List}
+use Rattle.lists.proofs.Ranges.{every_frame}
 use Rattle.region.specs.Speech.{speech_at}
 use Rattle.boundaries.proofs.edges.Speech.fills.Goals as goal
 
-pub returns-then-not-at : goal.returns-then-not-at
-returns-then-not-at c = all_stop (speech_at c.args.self.threshold c.args.self.db.now) _ _ c.loop-i-test.true (sym c.at.ensures ∙ c.if-not-at.true) ∙ c.loop-i.invariant
-
-pub loop-i-preserved : goal.loop-i-preserved
-loop-i-preserved c = all_on (speech_at c.args.self.threshold c.args.self.db.now) _ _ c.loop-i-test.true (sym c.at.ensures ∙ c.if-not-at.false) ∙ c.loop-i.invariant
-
 pub returns : goal.returns
-returns c = all_over (speech_at c.args.self.threshold c.args.self.db.now) _ _ c.loop-i-test.false ∙ c.loop-i.invariant
+returns c =
+    let a = c.args in
+    let t = speech_at a.self.threshold a.self.db.now in
+    all_from_yields_List t _ _ c.all.result c.all.ensures.ran (YieldsList-from_range a.a a.b (a.b - a.a) refl refl) (λ x r q k. search (rules, tests))
+    ∙ every_frame t a.a (a.b - a.a)

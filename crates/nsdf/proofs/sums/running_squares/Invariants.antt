@@ -1,6 +1,0 @@
--- `running_squares` meets its contract. The loop's invariant: the sums up to i are there, and `sum` is the last of them. Assumes nothing.
-use Rattle.nsdf.proofs.Differences.{Filled}
-use Rattle.nsdf.proofs.sums.running_squares.Given as goal
-
-abbrev pub invariant-loop-i : goal.invariant-loop-i
-invariant-loop-i l = Filled l.window l.sq l.sum l.i
