@@ -28,7 +28,7 @@
  * is written in has no global state, and gives its heap and the system only to functions that are
  * lent a handle, which none here is; and `nm` lists no undefined symbol but the C library's helpers
  * that copy and fill memory. What a call needs it has on the stack: the chain about
- * 150 KB, the others less.
+ * 105 KB, the others less.
  */
 #ifndef KIDDWYR_H
 #define KIDDWYR_H

@@ -17,7 +17,7 @@
 //! Pitches are changed in place. Floating point must be in the mode that Rust assumes: it rounds to
 //! nearest, and numbers near 0 are not flushed to it. No function asks more of its caller: what it
 //! cannot take it refuses, and then nothing lent has changed. None allocates, keeps state or calls
-//! the system; on the stack the chain takes about 150 KB, the others less.
+//! the system; on the stack the chain takes about 105 KB, the others less.
 //!
 //! What a call returns and leaves is proved to every bit, but for one thing: the logic knows a
 //! single NaN, so which of them an entry that stays still holds is left open. Tests see that its

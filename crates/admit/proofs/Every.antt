@@ -45,6 +45,9 @@ pub record Rising (n : ℕ) (xs : List ℕ) (good : Bool) (lo i : ℕ) : Type 0 
   pub split : (good && rising lo n (drop i xs)) ≡ rising 0 n xs
 
 module _ {n : ℕ} {xs : List ℕ} where
+  pub rising_start : Rising n xs true 0 0
+  rising_start = record { split = refl }
+
   pub rising_turn : {good b : Bool} {lo next i : ℕ} → i < length xs → Rising n xs good lo i → b ≡ (leb lo (get_or xs i 0) && ltb (get_or xs i 0) n) → next ≡ get_or xs i 0 + 1 → Rising n xs (good && b) next (i + 1)
   unfolding rising
   rising_turn {good} {b} {lo} {next} {i} l h e f = record { split = rw (e, f, add-one i, and_assoc) (rw (drop-cons xs i 0 l) at h.split) }

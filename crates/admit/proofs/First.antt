@@ -15,7 +15,10 @@ use Rattle.lists.specs.Marks.{member}
 use Rattle.lists.proofs.Tests.{and_cases, or_cases}
 use Rattle.admit.specs.Values.{all_of}
 use Rattle.admit.specs.declared.numbers.Refusal.{Refusal}
-use Rattle.admit.specs.Numbers.{number_at, numbers_in, tests_in}
+use Rattle.admit.specs.Numbers.{number_at, number_of, numbers_in, tests_in}
+use Rattle.std.specs.Result.{IsErrAnd}
+use Rattle.std.specs.Prelude.{Result, Ok, Err}
+use Rattle.admit.proofs.Numbered.{not_zero}
 use Rattle.admit.specs.First.{Test, first_of, passes, first_failed}
 
 -- ---- by what the tests are known to equal, those of a number joined one after the other as the code does
@@ -49,6 +52,11 @@ module _ (ns : List ℕ) (tests : List Test) where
       go : (b : Bool) (later : ℕ) → r ≡ cond b 0 1 → r ≡ cond b later 1
       go true later e = absurd (some e)
       go false later e = e
+
+  -- what is answered then is the refusal of the lengths
+  pub refused_at_once : {A : Type 0} (r : Result A Refusal) (x : Refusal) → IsErrAnd r (λ y. y ≡ x) → number_at x ≡ cond (passes tests 1) 0 1 → number_of r ≡ first_failed (1 ∷ ns) tests
+  refused_at_once (Ok v) x h e = absurd h
+  refused_at_once (Err y) x h e = rw h (at_once (not_zero _) e)
 
   pub later : {bs : List Bool} {r : ℕ} → ◌≡◌ {A = ℕ} 0 (cond (passes tests 1) 0 1) → r ≡ first_of (1 ∷ ns) (true ∷ bs) → bs ≡ map (passed_in_turn true tests) ns → r ≡ first_failed (1 ∷ ns) tests
   unfolding first_failed first_of

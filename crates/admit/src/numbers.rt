@@ -28,7 +28,7 @@ impl From<Refusal> for u32 {
     }
 }
 
-// The number of a refusal, 0 for none.
+// The number of a refusal, 0 for none. No `From`: neither `Result` nor u32 is this crate's.
 pub fn number(r: Result<(), Refusal>) -> u32
     ensures { result ≡ number_of r }
 {

@@ -27,7 +27,7 @@ use Rattle.boundaries.specs.Joints.{joint_by, joint, joints, inner, joints_insid
 use Rattle.boundaries.specs.Taken.{AddedInTurn}
 use Rattle.boundaries.proofs.Cells.{add_none, add_then, Trying, trying_start, trying_some, trying_end}
 use Rattle.boundaries.proofs.Turns.{In}
-use Rattle.boundaries.proofs.Neighbours.{FirstTwo, first_two, next_rises}
+use Rattle.lists.proofs.Windows.{FirstTwo, first_two, next_rises}
 
 -- the run that is found lies in the track
 pub found_within : (n : ℕ) (rs : List Span) (at : ℕ) (f : Found) → InTrack n rs → run_of rs at ≡ Some f → f.run.last < n
@@ -95,8 +95,8 @@ module _ (level : List Float) (rs : List Span) (dip : Float) (start end n : ℕ)
     joining_end h = trying_end (subst (λ (l : List ℕ). Trying (inside_of ns) l old k) (lone rest (omega (arith, h, c.two))) c.left)
 
     module _ {w rest' : List ℕ} {size' : ℕ} (s : size' ≡ size) (h : size ≤ length rest) (e : w ≡ take size rest) (f : rest' ≡ drop 1 rest) where
-      split : FirstTwo rest w rest'
-      split = first_two rest c.two h e f
+      split : FirstTwo 0 rest w rest'
+      split = first_two 0 rest c.two h e f
 
       ends : (get_or w 0 0 < get_or w 1 0) × (get_or w 1 0 < n) × StrictlyRises 0 n rest'
       ends = next_rises n split c.rises

@@ -1,5 +1,4 @@
 pub mod Adding
-pub mod Neighbours
 pub mod Spreading
 pub mod Cells
 pub mod Turns

@@ -23,7 +23,7 @@ use Rattle.runs.proofs.Spacing.{dropout_wide}
 use Rattle.boundaries.specs.Taken.{marked, Spread}
 use Rattle.boundaries.specs.Edges.{filled, in_creak}
 use Rattle.boundaries.specs.Minima.{in_long_span}
-use Rattle.boundaries.proofs.Neighbours.{FirstTwo, first_two, next_rises}
+use Rattle.lists.proofs.Windows.{FirstTwo, first_two, next_rises}
 
 -- ---- a walk that marks frames: those that are marked, and the test that is left to spread, are the whole test
 pub record Spreading (whole rest : ℕ → Bool) (m : List Bool) : Type 0 where
@@ -140,8 +140,8 @@ module _ {kept rest : List ℕ} {size : ℕ} {m : List Bool} (c : Spans kept res
   spans_end h = spreading_end (in_none rest (omega (arith, h, c.two))) c.left
 
   module _ {w rest' : List ℕ} {size' : ℕ} (s : size' ≡ size) (h : size ≤ length rest) (e : w ≡ take size rest) (f : rest' ≡ drop 1 rest) where
-    split : FirstTwo rest w rest'
-    split = first_two rest c.two h e f
+    split : FirstTwo 0 rest w rest'
+    split = first_two 0 rest c.two h e f
 
     ends : (get_or w 0 0 < get_or w 1 0) × (get_or w 1 0 < 2049) × StrictlyRises 0 2049 rest'
     ends = next_rises 2049 split c.rises

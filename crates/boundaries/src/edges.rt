@@ -15,6 +15,7 @@ use floats::plain::{magnitude, or_zero};
 use lists::candidates::key_of;
 use region::{Bounds, is_speech};
 use runs::syllables::dropouts;
+use runs::voiced::is_voiced;
 
 // The size of the difference of two values, rounded to f32.
 fn jump_of(x: f32, y: f32) -> f32
@@ -152,8 +153,8 @@ impl Edges for Voicing<'_> {
     ghost edge = { λ v. voicing_edge v.voiced.now };
 
     fn is_here(&self, i: usize) -> bool {
-        let before = self.pitch[i - 1] != 0.0;
-        let here = self.pitch[i] != 0.0;
+        let before = is_voiced(self.pitch[i - 1]);
+        let here = is_voiced(self.pitch[i]);
         before != here && !self.skip[i]
     }
 

@@ -1,7 +1,9 @@
 // Boundaries: candidate frames for the edges of syllables, kept in the order of their priority.
 // They go to the front of a lent list, and a count comes back: whoever calls the C interface brings all memory, and gives a
 // region as two numbers.
-// That a track has at most 2,048 frames is a `requires` and no type: a type round the slice would be opened at each use.
+// That a track has at most 2,048 frames goes with `Tracks`; where no `Tracks` is at hand it is a `requires` and no type: C and
+// files give plain slices, and a type round them would have to be made before each call. So for nuclei that rise, and for
+// runs that are no more than frames and lie in the track.
 #![tactic(auto)]
 
 ghost use Rattle.std.specs.Prelude.{◌≡◌, ◌+◌, ◌≤◌, length};

@@ -12,13 +12,14 @@ use super::edges::mark_frames;
 use super::taken::Kept;
 use arrayvec::ArrayVec;
 use lists::candidates::key_of;
+use lists::first::first_from;
 use smooth::extrema::{Extremum, local_extrema, lower};
 
 // A span of more than this many frames is searched for minima.
 const LONG_SPAN_FRAMES: u32 = 35;
 
 // The top of the hill on the left of frame i, across flat stretches; where the track begins at the latest.
-// By index, as the next: a place in the track is what it answers.
+// A loop: it goes backwards, and of `find` over a range from its end the library has no law.
 fn climb_left(level: &[f32], i: usize) -> usize
     requires { i < length level.now }
     ensures { (result ≡ climb_left level.now i) × (result ≤ i) }
@@ -38,12 +39,7 @@ fn climb_right(level: &[f32], i: usize) -> usize
         × (result < length level.now) }
 {
     let last = level.len() - 1;
-    for r in i..last {
-        if !(level[r] <= level[r + 1]) {
-            return r;
-        }
-    }
-    last
+    first_from(|r| !(level[r] <= level[r + 1]), i, last).unwrap_or(last)
 }
 
 // The prominence of frame i: the level on the lower of its two hills, less its own.

@@ -1,25 +1,13 @@
 // Kinds that are entries of single stages. An input has its numbers first, then its tracks; an answer has its refusal number
 // first, then counts, then what was lent, as long as it was lent.
-use super::fields::{settings_in, size, total};
+use super::asked::Input;
 use super::out::Out;
-use super::tables::{
-    ROOM, UNTOUCHED, first, first_mut, floats_in, lent, part, rest, samples_in, track, words_in,
-};
+use super::tables::{ROOM, UNTOUCHED, first, first_mut, floats_in, part, rest, samples_in};
 use admit::numbers::{Refusal, number};
 use entries::stages::{Answer, Counted, Spanned};
 use floats::bits::from_bits;
 
-// The bytes that follow some fields.
-pub fn bytes_after(input: &[u8], base: usize, fields: usize) -> &[u8] {
-    let n = base.wrapping_add(fields);
-    if n <= input.len() / 4 {
-        &input[4 * n..]
-    } else {
-        input
-    }
-}
-
-// A refusal.
+// A refusal. The judge's answers have refusals as numbers.
 fn put_refusal(refusal: u32, out: &mut Out<'_>) {
     out.number(1, u64::from(refusal));
 }
@@ -31,20 +19,20 @@ fn put_count(r: Result<usize, Refusal>, out: &mut Out<'_>) {
     out.number(4, answer.count as u64);
 }
 
-pub fn repair(input: &[u8], out: &mut Out<'_>) {
-    let mut table = floats_in(input);
-    let pitch = first_mut(&mut table, input.len() / 4);
+pub fn repair(bytes: &[u8], out: &mut Out<'_>) {
+    let mut table = floats_in(bytes);
+    let pitch = first_mut(&mut table, bytes.len() / 4);
     put_refusal(number(entries::stages::repair(pitch)), out);
     out.fields(pitch);
 }
 
-pub fn recovery(input: &[u8], out: &mut Out<'_>) {
-    let mut table = floats_in(rest(input, 20));
-    let pitch = lent(&mut table, input, 0);
-    let marks = bytes_after(input, 5, size(input, 0));
-    let speech = size(input, 1);
-    let vowel = size(input, 2);
-    let n = size(input, 3);
+pub fn recovery(input: Input<'_>, out: &mut Out<'_>) {
+    let mut table = floats_in(rest(input.bytes, 20));
+    let pitch = first_mut(&mut table, input.size(0));
+    let marks = input.bytes_after(5, input.size(0));
+    let speech = input.size(1);
+    let vowel = input.size(2);
+    let n = input.size(3);
     let samples = samples_in(rest(marks, speech.wrapping_add(vowel)), n);
     let answer = entries::stages::recover(
         pitch,
@@ -57,34 +45,34 @@ pub fn recovery(input: &[u8], out: &mut Out<'_>) {
 }
 
 // The speech mark of each frame.
-pub fn speech(input: &[u8], floats: &[f32], out: &mut Out<'_>) {
+pub fn speech(input: Input<'_>, out: &mut Out<'_>) {
     let mut table = [0xeeu8; ROOM];
-    let marks = lent(&mut table, input, 3);
-    let found = entries::stages::speech_marks(rest(floats, 4), settings_in(input), marks);
+    let marks = first_mut(&mut table, input.size(3));
+    let found = entries::stages::speech_marks(input.floats_from(4), input.settings(), marks);
     put_count(found, out);
     out.bytes(marks);
 }
 
 // The refusal, whether there is a region, and its ends.
-pub fn region(input: &[u8], floats: &[f32], out: &mut Out<'_>) {
-    let found = Spanned::from(entries::stages::region(rest(floats, 3), settings_in(input)));
+pub fn region(input: Input<'_>, out: &mut Out<'_>) {
+    let found = Spanned::from(entries::stages::region(input.floats_from(3), input.settings()));
     put_refusal(found.refusal, out);
     out.number(1, found.found as u64);
     out.fields(&[found.start, found.end]);
 }
 
 // The nuclei of a region.
-pub fn nuclei(input: &[u8], floats: &[f32], out: &mut Out<'_>) {
+pub fn nuclei(input: Input<'_>, out: &mut Out<'_>) {
     let mut frames = [UNTOUCHED; ROOM];
     let mut strengths = [from_bits(UNTOUCHED); ROOM];
-    let frames = lent(&mut frames, input, 5);
-    let strengths = lent(&mut strengths, input, 5);
+    let frames = first_mut(&mut frames, input.size(5));
+    let strengths = first_mut(&mut strengths, input.size(5));
     let found = entries::stages::nuclei(
-        track(floats, input, 6, 8, 6),
-        track(floats, input, 6, 8, 7),
-        size(input, 3),
-        size(input, 4),
-        settings_in(input),
+        input.track(6, 8, 6),
+        input.track(6, 8, 7),
+        input.size(3),
+        input.size(4),
+        input.settings(),
         frames,
         strengths,
     );
@@ -93,22 +81,22 @@ pub fn nuclei(input: &[u8], floats: &[f32], out: &mut Out<'_>) {
 }
 
 // The extra candidates of a region and their edges.
-pub fn extras(input: &[u8], floats: &[f32], out: &mut Out<'_>) {
-    let nuclei = words_in(input, 11usize.wrapping_add(total(input, 7, 10)));
+pub fn extras(input: Input<'_>, out: &mut Out<'_>) {
+    let nuclei = input.words_from(11usize.wrapping_add(input.total(7, 10)));
     let mut frames = [UNTOUCHED; ROOM];
     let mut strengths = [from_bits(UNTOUCHED); ROOM];
     let mut edges = [UNTOUCHED; ROOM];
-    let frames = lent(&mut frames, input, 5);
-    let strengths = lent(&mut strengths, input, 5);
-    let edges = lent(&mut edges, input, 6);
+    let frames = first_mut(&mut frames, input.size(5));
+    let strengths = first_mut(&mut strengths, input.size(5));
+    let edges = first_mut(&mut edges, input.size(6));
     let found = Counted::from(entries::stages::extras(
-        track(floats, input, 7, 11, 7),
-        track(floats, input, 7, 11, 8),
-        track(floats, input, 7, 11, 9),
-        size(input, 3),
-        size(input, 4),
-        first(&nuclei, size(input, 10)),
-        settings_in(input),
+        input.track(7, 11, 7),
+        input.track(7, 11, 8),
+        input.track(7, 11, 9),
+        input.size(3),
+        input.size(4),
+        first(&nuclei, input.size(10)),
+        input.settings(),
         frames,
         strengths,
         edges,
@@ -120,41 +108,40 @@ pub fn extras(input: &[u8], floats: &[f32], out: &mut Out<'_>) {
     out.fields(edges);
 }
 
-// The boundaries of a region by what is given to an entry of boundaries: the tracks, the region, the nuclei and a list. `call`
-// and `floats` are from the region on.
-fn boundaries_by<F>(entry: F, call: &[u8], floats: &[f32], out: &mut Out<'_>)
+// The boundaries of a region by what is given to an entry of boundaries: the tracks, the region, the nuclei and a list. `input` is
+// from the region on.
+fn boundaries_by<F>(entry: F, input: Input<'_>, out: &mut Out<'_>)
 where
     F: FnOnce(&[f32], &[f32], &[f32], usize, usize, &[u32], &mut [u32]) -> Result<usize, Refusal>,
     requires { F.IsAlwaysCallable entry }
 {
-    let nuclei = words_in(call, 7usize.wrapping_add(total(call, 3, 6)));
+    let nuclei = input.words_from(7usize.wrapping_add(input.total(3, 6)));
     let mut list = [UNTOUCHED; ROOM];
-    let list = lent(&mut list, call, 2);
+    let list = first_mut(&mut list, input.size(2));
     let found = entry(
-        track(floats, call, 3, 7, 3),
-        track(floats, call, 3, 7, 4),
-        track(floats, call, 3, 7, 5),
-        size(call, 0),
-        size(call, 1),
-        first(&nuclei, size(call, 6)),
+        input.track(3, 7, 3),
+        input.track(3, 7, 4),
+        input.track(3, 7, 5),
+        input.size(0),
+        input.size(1),
+        first(&nuclei, input.size(6)),
         list,
     );
     put_count(found, out);
     out.fields(list);
 }
 
-pub fn boundaries_with(input: &[u8], floats: &[f32], out: &mut Out<'_>) {
-    let p = settings_in(input);
+pub fn boundaries_with(input: Input<'_>, out: &mut Out<'_>) {
+    let p = input.settings();
     boundaries_by(
         |db, pitch, voiced, start, end, nuclei, list| {
             entries::stages::boundaries_with(db, pitch, voiced, start, end, nuclei, p, list)
         },
-        rest(input, 12),
-        rest(floats, 3),
+        input.after_settings(),
         out,
     );
 }
 
-pub fn boundaries(input: &[u8], floats: &[f32], out: &mut Out<'_>) {
-    boundaries_by(entries::stages::boundaries, input, floats, out);
+pub fn boundaries(input: Input<'_>, out: &mut Out<'_>) {
+    boundaries_by(entries::stages::boundaries, input, out);
 }

@@ -28,7 +28,17 @@ pub fn total(s: &[u8], first: usize, last: usize) -> usize {
 // The k-th pair of fields as one number.
 pub fn long(s: &[u8], k: usize) -> u64 {
     if k < s.len() / 8 {
-        return (u64::from(word(s, 2 * k)) << 32) | u64::from(word(s, 2 * k + 1));
+        let at = 8 * k;
+        return u64::from_be_bytes([
+            s[at],
+            s[at + 1],
+            s[at + 2],
+            s[at + 3],
+            s[at + 4],
+            s[at + 5],
+            s[at + 6],
+            s[at + 7],
+        ]);
     }
     0
 }

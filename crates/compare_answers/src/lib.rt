@@ -3,6 +3,7 @@
 // floats by their bit patterns. An input that a function does not take has an answer that no reference gives.
 #![tactic(auto)]
 
+mod asked;
 mod calls;
 pub mod fields;
 mod kind;
@@ -13,45 +14,48 @@ mod tracks;
 mod values;
 mod whole;
 
+use asked::Input;
 use kind::Kind;
 use out::Out;
 use runs::syllables::{dropouts, syllable_runs};
 use runs::voiced::long_runs;
 use smooth::extrema::Extremum;
 
-// A new kind is a case of `Kind`, its number there and a line here.
-fn write_answer(kind: Kind, input: &[u8], out: &mut Out<'_>) {
-    let table = tables::floats_in(input);
-    let floats = tables::first(&table, input.len() / 4);
+// A new kind is a case of `Kind`, its number there and a line here. One match and no table of closures: kinds come as numbers,
+// and their functions take different things.
+fn write_answer(kind: Kind, bytes: &[u8], out: &mut Out<'_>) {
+    let table = tables::floats_in(bytes);
+    let floats = tables::first(&table, bytes.len() / 4);
+    let input = Input { bytes, floats };
     match kind {
-        Kind::Each(entry) => values::entries(entry, input, out),
-        Kind::Level => tracks::level(floats, out),
-        Kind::Maxima => tracks::extrema(Extremum::Max, input, floats, out),
-        Kind::Minima => tracks::extrema(Extremum::Min, input, floats, out),
-        Kind::ArgminMiddle => short::middle(Extremum::Min, input, floats, out),
-        Kind::ArgmaxMiddle => short::middle(Extremum::Max, input, floats, out),
-        Kind::ShallowValley => short::shallow(input, floats, out),
-        Kind::Floor => short::floor(floats, out),
-        Kind::Threshold => short::threshold(input, floats, out),
-        Kind::Speech => tracks::speech(input, floats, out),
-        Kind::Region => short::region(input, floats, out),
-        Kind::VoicedRuns => tracks::voiced_runs(floats, out),
-        Kind::LongRuns => tracks::spans(long_runs, floats, out),
-        Kind::SyllableRuns => tracks::spans(syllable_runs, floats, out),
-        Kind::Dropouts => tracks::spans(dropouts, floats, out),
+        Kind::Each(entry) => values::entries(entry, bytes, out),
+        Kind::Level => tracks::level(input, out),
+        Kind::Maxima => tracks::extrema(Extremum::Max, input, out),
+        Kind::Minima => tracks::extrema(Extremum::Min, input, out),
+        Kind::ArgminMiddle => short::middle(Extremum::Min, input, out),
+        Kind::ArgmaxMiddle => short::middle(Extremum::Max, input, out),
+        Kind::ShallowValley => short::shallow(input, out),
+        Kind::Floor => short::floor(input, out),
+        Kind::Threshold => short::threshold(input, out),
+        Kind::Speech => tracks::speech(input, out),
+        Kind::Region => short::region(input, out),
+        Kind::VoicedRuns => tracks::voiced_runs(input, out),
+        Kind::LongRuns => tracks::spans(long_runs, input, out),
+        Kind::SyllableRuns => tracks::spans(syllable_runs, input, out),
+        Kind::Dropouts => tracks::spans(dropouts, input, out),
         Kind::RunOf => short::run_of(input, out),
-        Kind::Repair => calls::repair(input, out),
-        Kind::Nsdf => values::periodicity(input, out),
-        Kind::Estimate => short::estimate(input, out),
+        Kind::Repair => calls::repair(bytes, out),
+        Kind::Nsdf => values::periodicity(bytes, out),
+        Kind::Estimate => short::estimate(bytes, out),
         Kind::Recovery => calls::recovery(input, out),
-        Kind::SpeechEntry => calls::speech(input, floats, out),
-        Kind::RegionEntry => calls::region(input, floats, out),
-        Kind::Nuclei => calls::nuclei(input, floats, out),
-        Kind::Extras => calls::extras(input, floats, out),
-        Kind::BoundariesWith => calls::boundaries_with(input, floats, out),
-        Kind::Boundaries => calls::boundaries(input, floats, out),
-        Kind::Chain => whole::chain(input, floats, out),
-        Kind::TakeFile => whole::listing(input, out),
+        Kind::SpeechEntry => calls::speech(input, out),
+        Kind::RegionEntry => calls::region(input, out),
+        Kind::Nuclei => calls::nuclei(input, out),
+        Kind::Extras => calls::extras(input, out),
+        Kind::BoundariesWith => calls::boundaries_with(input, out),
+        Kind::Boundaries => calls::boundaries(input, out),
+        Kind::Chain => whole::chain(input, out),
+        Kind::TakeFile => whole::listing(bytes, out),
     }
 }
 

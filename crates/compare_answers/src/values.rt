@@ -39,7 +39,8 @@ pub enum Entry {
     Octave,
 }
 
-// Whether p is within the range of the estimates.
+// Whether p is within the range of the estimates. By hand: `contains` of a range goes by `partial_cmp`, and its answer was not
+// proved to be that of the two comparisons.
 fn is_estimate(p: f64) -> bool
     ensures { result ≡ is_between (hz 60) (hz 600) p }
 {
@@ -125,6 +126,7 @@ impl Entry {
 fn read_entries(entry: Entry, input: &[u8]) -> ArrayVec<u64, 2048> {
     let mut xs = ArrayVec::new();
     for s in input.chunks_exact(entry.input_bytes()) {
+        // A test and no `take(2048)` above: that each push has room was not proved with it.
         if xs.is_full() {
             break;
         }
@@ -143,7 +145,7 @@ pub fn entries(entry: Entry, input: &[u8], out: &mut Out<'_>) {
     }
 }
 
-// The window that some samples are, where they are no more than one has.
+// The window that some samples are, where they are no more than one has. An `if` as in `part_of`.
 fn window_of(samples: &[i16]) -> Option<Window<'_>> {
     if samples.len() <= WINDOW {
         Some(Window { samples })

@@ -1,8 +1,7 @@
 // The chain, and the listing of a take file.
-use super::calls::bytes_after;
-use super::fields::{settings_in, size, total};
+use super::asked::Input;
 use super::out::Out;
-use super::tables::{ROOM, UNTOUCHED, first, floats_in, lent, part, rest, samples_in, track};
+use super::tables::{ROOM, UNTOUCHED, first, first_mut, floats_in, part, rest, samples_in};
 use chain::Marks;
 use floats::bits::from_bits;
 
@@ -17,33 +16,33 @@ fn put_found(found: Marks, out: &mut Out<'_>) {
 }
 
 // The chain, with lists of its own. Its pitches are written, so they have a table of their own.
-pub fn chain(input: &[u8], floats: &[f32], out: &mut Out<'_>) {
-    let marks = bytes_after(input, 14, total(input, 7, 11));
-    let vowel = size(input, 11);
-    let n = size(input, 12);
+pub fn chain(input: Input<'_>, out: &mut Out<'_>) {
+    let marks = input.bytes_after(14, input.total(7, 11));
+    let vowel = input.size(11);
+    let n = input.size(12);
     let samples = samples_in(rest(marks, vowel), n);
-    let mut pitch = floats_in(bytes_after(input, 14, size(input, 7)));
+    let mut pitch = floats_in(input.bytes_after(14, input.size(7)));
     let mut frames = [UNTOUCHED; ROOM];
     let mut strengths = [from_bits(UNTOUCHED); ROOM];
     let mut xframes = [UNTOUCHED; ROOM];
     let mut xstrengths = [from_bits(UNTOUCHED); ROOM];
     let mut edges = [UNTOUCHED; ROOM];
     let mut bounds = [UNTOUCHED; ROOM];
-    let pitch = lent(&mut pitch, input, 8);
-    let frames = lent(&mut frames, input, 3);
-    let strengths = lent(&mut strengths, input, 3);
-    let xframes = lent(&mut xframes, input, 4);
-    let xstrengths = lent(&mut xstrengths, input, 4);
-    let edges = lent(&mut edges, input, 5);
-    let bounds = lent(&mut bounds, input, 6);
+    let pitch = first_mut(&mut pitch, input.size(8));
+    let frames = first_mut(&mut frames, input.size(3));
+    let strengths = first_mut(&mut strengths, input.size(3));
+    let xframes = first_mut(&mut xframes, input.size(4));
+    let xstrengths = first_mut(&mut xstrengths, input.size(4));
+    let edges = first_mut(&mut edges, input.size(5));
+    let bounds = first_mut(&mut bounds, input.size(6));
     let found = Marks::from(chain::chain(
-        track(floats, input, 7, 14, 7),
+        input.track(7, 14, 7),
         pitch,
-        track(floats, input, 7, 14, 9),
-        track(floats, input, 7, 14, 10),
+        input.track(7, 14, 9),
+        input.track(7, 14, 10),
         part(marks, 0, vowel),
         first(&samples, n),
-        settings_in(input),
+        input.settings(),
         frames,
         strengths,
         xframes,

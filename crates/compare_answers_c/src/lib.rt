@@ -20,15 +20,15 @@ pub extern "C" fn judge_answer(kind: u32, input: &[u8], out: &mut [u8]) -> usize
     compare_answers::answer((kind % 256) as u8, input, out)
 }
 
-// Floor, threshold and region; the start times 2^32 plus the end, 0 for no region.
+// Floor, threshold and region; the start times 2^32 plus the end, 0 for no region, as C gets a number.
 #[unsafe(no_mangle)]
 pub extern "C" fn judge_region(db: &[f32]) -> u64
     requires { length db.now ≤ 2048 }
 {
-    match region::speech_region(db, default_settings()) {
-        None => 0,
-        Some(r) => (u64::from(r.start) << 32) | u64::from(r.end),
-    }
+    region::speech_region(db, default_settings()).map_or(
+        0,
+        |r| (u64::from(r.start) << 32) | u64::from(r.end),
+    )
 }
 
 #[unsafe(no_mangle)]

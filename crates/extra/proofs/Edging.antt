@@ -1,7 +1,7 @@
 -- The edges between neighbouring anchors, a step at a time. Assumes nothing.
 use Prim.Native.Nat.{ℕ, ◌+◌, ◌<◌, ◌≤◌}
 use native.Mathlib.Omega.{arith}
-use mathlib.Core.Path.{◌≡◌, refl, ap, ◌∙◌, subst}
+use mathlib.Core.Path.{◌≡◌, refl}
 use mathlib.Core.Bool.{Bool, ◌||◌}
 use mathlib.Core.List.{List, [], ◌∷◌}
 use lib.ListN.{length, get_or, take, drop}
@@ -20,32 +20,24 @@ module _ (s : List Float) (peak : ℕ → Bool) where
   between_few (a ∷ []) = omega arith
   between_few (a ∷ b ∷ bs) = length_cons_if (peak a || peak b) (argmin_middle s a b) (edges_between s peak (b ∷ bs)) (between_few (b ∷ bs))
 
-  -- pair: the first two of those that are left
-  module _ (left pair : List ℕ) (two : 2 ≤ length left) (e : pair ≡ take 2 left) where
-    left_is : left ≡ get_or pair 0 0 ∷ get_or pair 1 0 ∷ drop 2 left
-    left_is = go left two e
-      where
-        go : (xs : List ℕ) → 2 ≤ length xs → pair ≡ take 2 xs → xs ≡ get_or pair 0 0 ∷ get_or pair 1 0 ∷ drop 2 xs
-        go [] k q = absurd (omega arith)
-        go (a ∷ []) k q = absurd (omega arith)
-        go (a ∷ b ∷ xs) k q = rw q refl
+  -- a step of the walk over windows of two: `pair` is lent, and `after` is left then
+  pub record Turned (n : ℕ) (left pair after : List ℕ) : Type 0 where
+    pub order : (get_or pair 0 0 < get_or pair 1 0) × (get_or pair 1 0 < n)
+    pub step : edges_between s peak left ≡ cons_if (peak (get_or pair 0 0) || peak (get_or pair 1 0)) (argmin_middle s (get_or pair 0 0) (get_or pair 1 0)) (edges_between s peak after)
+    pub rises : StrictlyRises 0 n after
 
-    rest_is : drop 1 left ≡ get_or pair 1 0 ∷ drop 2 left
-    rest_is = ap (drop 1) left_is
-
-    pub between_step : edges_between s peak left ≡ cons_if (peak (get_or pair 0 0) || peak (get_or pair 1 0)) (argmin_middle s (get_or pair 0 0) (get_or pair 1 0)) (edges_between s peak (drop 1 left))
-    unfolding edges_between
-    between_step = ap (edges_between s peak) left_is ∙ rw rest_is refl
-
-    module _ (n : ℕ) (rises : StrictlyRises 0 n left) where
-      apart : StrictlyRises 0 n (get_or pair 0 0 ∷ get_or pair 1 0 ∷ drop 2 left)
-      apart = subst (StrictlyRises 0 n) left_is rises
-
-      pub between_order : (get_or pair 0 0 < get_or pair 1 0) × (get_or pair 1 0 < n)
-      between_order = (omega (arith, apart.2.0), apart.2.1)
-
-      pub between_rest : StrictlyRises 0 n (drop 1 left)
-      between_rest = rw rest_is (strict_from 0 (get_or pair 0 0 + 1) n (get_or pair 1 0 ∷ drop 2 left) (omega arith) apart.2)
+  pub turned : (n size : ℕ) (left pair after : List ℕ) → size ≡ 2 → StrictlyRises 0 n left → size ≤ length left → pair ≡ take size left → after ≡ drop 1 left → Turned n left pair after
+  unfolding edges_between
+  turned n size left pair after e r h q f = go left (omega (arith, e, h)) (rw e at q) f r
+    where
+      go : (xs : List ℕ) → 2 ≤ length xs → pair ≡ take 2 xs → after ≡ drop 1 xs → StrictlyRises 0 n xs → Turned n xs pair after
+      go [] k q f r = absurd (omega arith)
+      go (a ∷ []) k q f r = absurd (omega arith)
+      go (a ∷ b ∷ xs) k q f r = record {
+        order = rw q (omega (arith, r.2.0), r.2.1);
+        step = rw (q, f) refl;
+        rises = rw f (strict_from 0 (a + 1) n (b ∷ xs) (omega arith) r.2);
+      }
 
   pub between_over : (left : List ℕ) → length left < 2 → edges_between s peak left ≡ []
   unfolding edges_between

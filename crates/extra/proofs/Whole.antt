@@ -20,10 +20,15 @@ use Rattle.std.specs.Prelude.{None, Some}
 use Rattle.nuclei.specs.Nuclei.{nucleus_at, strengths_of}
 use Rattle.nuclei.proofs.Merge.{merged_rises}
 use Rattle.nuclei.proofs.Whole.{listed_nothing}
+use Rattle.runs.specs.Runs.{long_runs}
+use Rattle.runs.proofs.Spacing.{long_few}
+use Rattle.extra.specs.declared.seconds.Second.{Second}
 use Rattle.extra.specs.Merging.{one_syllable, survivor, anchors}
+use Rattle.extra.specs.Seconds.{seconds}
 use Rattle.extra.specs.declared.Counts.{Counts}
 use Rattle.extra.specs.Extra.{ExtrasListed, extra_frames, extra_edges, extras_of, edges_of}
 use Rattle.extra.proofs.Anchoring.{survivor_picks}
+use Rattle.extra.proofs.Holding.{seconds_few}
 
 -- ---- frames that are written in order
 pub strengths_few : (s : List Float) (x : Float) (cs : List ℕ) (n : ℕ) → length (strengths_of (map (nucleus_at s x) (in_order cs n))) ≤ n
@@ -41,6 +46,10 @@ pub anchors_rise : (s : List Float) (p : Settings) (nuclei peaks : List ℕ) →
 unfolding anchors
 anchors_rise s p nuclei peaks =
     merged_rises (one_syllable s p (member peaks)) (survivor s (member peaks)) (survivor_picks s (member peaks)) (length s) (in_order (nuclei ++ peaks) (length s)) (in_order_is (nuclei ++ peaks) (length s)).rises
+
+-- ---- the second syllables that a list holds
+pub seconds_count : {A : Type 0} (g : Second → A) (pitch son : List Float) (kept : List ℕ) {old new : List A} {j : ℕ} → Listed (map g (seconds son kept (long_runs pitch))) old new j → j ≤ length pitch
+seconds_count g pitch son kept l = omega (arith, l.count, length-map (seconds son kept (long_runs pitch)) g, seconds_few son kept (long_runs pitch), long_few pitch)
 
 -- ---- the extras of a take
 module _ (db pitch son : List Float) (start end : ℕ) (nuclei : List ℕ) (p : Settings) where

@@ -1,7 +1,9 @@
 // Extras: syllables that the nuclei miss, and the edges that go with them. A vowel can be loud and have no pitch that the
 // tracker accepts, and two syllables may share a voiced run in which neither level nor pitch parts them.
 // Lent lists and a region as two numbers: as in `nuclei`.
-// That a track has at most 2,048 frames is a `requires` and no type: a type round the slice would be opened at each use.
+// That a track has at most 2,048 frames is a `requires` and no type: C and files give plain slices, and a type round them would
+// have to be made before each call.
+// That frames rise is one too: they are lent as plain lists, and a type round them would have to be made before each call.
 #![tactic(auto)]
 
 pub mod merging;

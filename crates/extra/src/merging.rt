@@ -5,12 +5,13 @@ ghost use Rattle.extra.specs.Merging.{mark_at, one_syllable, survivor, anchors};
 
 use arrayvec::ArrayVec;
 use lists::marks::marks;
-use nuclei::merging::{louder, push_merging};
+use nuclei::merging::{louder, merge_marked};
 use region::Settings;
 use smooth::extrema::Part;
 
 // Whether two anchors, the earlier first, are one syllable: closer than the gap, or with no valley between them. Two
 // nuclei are not, since both were kept as nuclei. The unpitched peaks are marked.
+// Two frames and no struct: as at `nuclei::merging::louder`.
 fn one_syllable(s: &[f32], p: Settings, is_peak: &[bool; 2048], prev: u32, x: u32) -> bool
     requires { (length s.now ≤ 2048) × (prev < x) × (x < length s.now) }
     ensures { result ≡ one_syllable s.now p (mark_at is_peak.now) prev x }
@@ -56,15 +57,11 @@ pub fn merged<const N: usize>(
 {
     let is_nucleus = marks(nuclei);
     let is_peak = marks(peaks);
-    kept.clear();
-    for i in 0..s.len() {
-        if is_nucleus[i] || is_peak[i] {
-            push_merging(
-                &|prev, x| one_syllable(s, p, &is_peak, prev, x),
-                &|prev, x| survivor(s, &is_peak, prev, x),
-                kept,
-                i as u32,
-            );
-        }
-    }
+    merge_marked(
+        s.len(),
+        |i| is_nucleus[i] || is_peak[i],
+        |prev, x| one_syllable(s, p, &is_peak, prev, x),
+        |prev, x| survivor(s, &is_peak, prev, x),
+        kept,
+    );
 }

@@ -19,6 +19,7 @@ pub struct Second {
 }
 
 // The kept frames from the first on that is not more than 2 before frame a.
+// From the front and no `partition_point`: each search begins where the last one ended.
 fn skip_to(kept: &[u32], a: u32) -> &[u32]
     requires { StrictlyRises 0 2048 kept.now }
     ensures { LeftFrom kept.now a result.now }

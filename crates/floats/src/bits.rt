@@ -1,7 +1,7 @@
 // Floats and their bit patterns, at every pattern and every value. The contracts know one NaN, so each
 // pattern of a NaN reads as that one, and it is written as the pattern with only the highest digit set.
 // Each is one call of the library under a shorter name: they say which reading of a NaN is meant in one place, where the
-// wrong program that reads an infinity as a NaN is refused.
+// wrong program that reads an infinity as a NaN is refused; two types and no trait, as each is one call.
 ghost use Rattle.std.specs.Prelude.{◌≡◌};
 ghost use Rattle.std.specs.Float.{binary32, binary64};
 ghost use Rattle.std.specs.Float.Ieee.{of_bits, to_bits};

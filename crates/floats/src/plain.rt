@@ -1,4 +1,5 @@
 // The finite test, the size of a number, and values that take the place of others.
+// The first two are names of ours over one call: the definitions of these names are what contracts and docs/CONTRACTS.md speak of.
 ghost use Rattle.std.specs.Prelude.{◌≡◌};
 ghost use Rattle.std.specs.Float.Ieee.Scale.{finite};
 ghost use Rattle.floats.specs.Plain.{magnitude, or_zero, plain_zero};

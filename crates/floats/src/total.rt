@@ -1,10 +1,11 @@
 // IEEE 754's total order on f32: every value has a place, -0.0 right before +0.0, and a NaN after
 // +infinity. Two values stand in the order of their places, and no two share one.
+// Places and no `total_cmp`: they are counted, halved and sorted as whole numbers.
 ghost use Rattle.std.specs.Prelude.{◌≡◌};
 ghost use Rattle.floats.specs.Total.{placed, total_key, finite_key, value_of};
 
+use super::bits::{from_bits, to_bits};
 use super::plain::is_finite;
-use std::num::{f32_from_bits_with_nan, f32_to_bits_with_nan};
 
 // Where the value of the pattern b stands.
 fn place(b: u32) -> u32
@@ -21,7 +22,7 @@ fn place(b: u32) -> u32
 pub fn total_key(x: f32) -> u32
     ensures { result ≡ total_key x }
 {
-    place(f32_to_bits_with_nan(x))
+    place(to_bits(x))
 }
 
 // Where x stands if it is finite, else a place past those of all finite values. A number and no `Option`: keys are sorted and
@@ -45,5 +46,5 @@ pub fn from_total_key(k: u32) -> f32
     } else {
         0xffff_ffff - k
     };
-    f32_from_bits_with_nan(b)
+    from_bits(b)
 }

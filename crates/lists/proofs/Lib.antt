@@ -13,6 +13,7 @@ pub mod Stacks
 pub mod Turns
 pub mod Replaced
 pub mod Walks
+pub mod Windows
 pub mod Ranges
 pub mod Firsts
 pub mod Grouping

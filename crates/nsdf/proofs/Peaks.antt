@@ -1,50 +1,51 @@
 -- Walking over the measured lags, and over the peaks among them. Assumes nothing.
-use mathlib.Core.Path.{◌≡◌, refl, sym, ◌∙◌}
+use mathlib.Core.Path.{◌≡◌, refl, sym, ap, ◌∙◌}
 use Prim.Native.Nat.{ℕ, zero, suc, ◌+◌, ◌-◌, ◌≤◌, ◌<◌}
-use native.Mathlib.Nat.{le_of_eq}
 use native.Mathlib.Omega.{arith}
-use mathlib.Core.Bool.{Bool, true, false}
+use mathlib.Core.Bool.{Bool, true, false, true≢false}
+use lib.Dec.{ltb}
+use Rattle.std.proofs.Common.{ltb-true, ltb-false, leb, leb-true, leb-false, subst, get_or}
 use mathlib.Core.List.{List, map}
 use lib.IntN.{ℤ}
-use lib.ListN.{length, drop, set}
 use lib.Ieee.{Float, nan, inf}
 use Rattle.lists.specs.Results.{keep, cons_if}
 use Rattle.lists.specs.By.{better, best_of}
-use Rattle.lists.proofs.Fill.{Filling, fill_start, fill_entry, keep_step, keep_over}
+use Rattle.lists.proofs.Fill.{keep_step, keep_over}
 use Rattle.lists.proofs.Tabulated.{length_tabulate, tabulate_at}
-use Rattle.std.specs.Prelude.{Option, None, Some}
+use Rattle.std.specs.Prelude.{Option, None, Some, MatchOption}
 use Rattle.nsdf.specs.Nsdf.{nsdf}
-use Rattle.lists.specs.Frames.{at}
+use Rattle.lists.specs.Frames.{at, tabulate}
+use Rattle.std.specs.Fn.{Called}
+use Rattle.std.specs.Array.{IsFromFnResult, IsFromFnResultFrom}
+use Rattle.std.proofs.lemmas.List.{same_lists}
+use denote.Param.Members.{Mut}
 use Rattle.nsdf.specs.Period.{above, measured, is_peak, is_near, first, best_peak, first_peak}
 
 -- ---- the lags
-
-length_measured : (w : List ℤ) → length (measured w) ≡ 200
-unfolding measured
-length_measured w = length_tabulate (λ k. nsdf w (31 + k)) 200
 
 pub measured_at : (w : List ℤ) (k : ℕ) → k < 200 → at (measured w) k ≡ nsdf w (31 + k)
 unfolding measured
 measured_at w k h = tabulate_at (λ k. nsdf w (31 + k)) 200 k nan h
 
--- the first k lags are measured
-abbrev pub Measuring : List ℤ → List Float → List Float → ℕ → Type 0
-Measuring w d₀ d k = Filling (measured w) (drop k (measured w)) d₀ d k
+-- what `array::from_fn` makes of a closure that stays as it is and answers h i at each i
+module _ {F B : Type 0} {g : Mut F (ℕ × Unit {0}) B} (f : F) (h : ℕ → B) (told : (i : ℕ) (y : B) (q : F) → Called g f (i, tt) y q → (q ≡ f) × (y ≡ h i)) (ys : List B) where
+  each_call : (p : F) → p ≡ f → (i n : ℕ) → IsFromFnResultFrom g p ys i n → (j : ℕ) (d : B) → i ≤ j → j < i + n → get_or ys j d ≡ h j
+  each_call p e i zero r j d l m = absurd (omega arith)
+  each_call p e i (suc n) r j d l m =
+      let now = told i r.1 r.0 (subst (λ s. Called g s (i, tt) r.1 r.0) e r.3) in
+      go (leb j i) refl (r.2.1 d ∙ now.1) (each_call r.0 now.0 (i + 1) n r.4 j d)
+    where
+      go : (t : Bool) → leb j i ≡ t → get_or ys i d ≡ h i → (i + 1 ≤ j → j < i + 1 + n → get_or ys j d ≡ h j) → get_or ys j d ≡ h j
+      go true t here later = let s : i ≡ j = omega (arith, leb-true j i t) in subst (λ k. get_or ys k d ≡ h k) s here
+      go false t here later = let s : i < j = leb-false j i t in later (omega arith) (omega arith)
 
-module _ (w : List ℤ) {d₀ : List Float} where
-  pub measure_first : length d₀ ≡ 200 → Measuring w d₀ d₀ 0
-  measure_first e = fill_start (measured w) d₀ (le_of_eq (length_measured w ∙ sym e))
+  pub list_of_calls : (n : ℕ) → IsFromFnResult g f ys n → ys ≡ tabulate h n
+  list_of_calls n r = same_lists ys (tabulate h n) (r.long ∙ sym (length_tabulate h n)) (λ k d l. let m : k < n = omega (arith, r.long) in each_call f refl 0 n r.each k d (omega arith) (omega arith) ∙ sym (tabulate_at h n k d m))
 
-  pub measure_turn : {d : List Float} (k : ℕ) (v : Float) → k < 200 → v ≡ nsdf w (31 + k) → Measuring w d₀ d k → Measuring w d₀ (set d k v) (k + 1)
-  measure_turn k v h e m = rw (e ∙ sym (measured_at w k h)) (fill_entry (measured w) k nan (rw (length_measured w) h) m)
-
--- ---- the best of the peaks, and the first that is near it: `best` with the peaks from k on, and the first from k on
+-- ---- the best of the peaks: `best` with the peaks from k on
 
 abbrev pub best_from : List Float → Float → ℕ → Float
 best_from d best k = best_of above best (map (at d) (keep (is_peak d) k (199 - k)))
-
-abbrev pub first_from : List Float → Float → ℕ → Option ℕ
-first_from d least k = first (keep (is_near d least) k (199 - k))
 
 module _ (d : List Float) where
   pub best_first : best_from d (inf true) 1 ≡ best_peak d
@@ -54,13 +55,6 @@ module _ (d : List Float) where
   pub best_last : (best : Float) (k : ℕ) → 199 ≤ k → best_from d best k ≡ best
   best_last best k h = rw (keep_over (is_peak d) k 199 h)
 
-  pub near_first : (least : Float) → first_from d least 1 ≡ first_peak d least
-  unfolding first_peak
-  near_first least = refl
-
-  pub near_last : (least : Float) (k : ℕ) → 199 ≤ k → None ≡ first_from d least k
-  near_last least k h = rw (keep_over (is_near d least) k 199 h)
-
   module _ (k : ℕ) (more : k < 199) where
     pub best_peak_lem : (best : Float) → is_peak d k ≡ true → best_from d (better above best (at d k)) (k + 1) ≡ best_from d best k
     best_peak_lem best t = rw (keep_step (is_peak d) k 199 more, t)
@@ -68,11 +62,35 @@ module _ (d : List Float) where
     pub best_none : (best : Float) → is_peak d k ≡ false → best_from d best (k + 1) ≡ best_from d best k
     best_none best t = rw (keep_step (is_peak d) k 199 more, t)
 
-    pub near_peak : (least : Float) → is_near d least k ≡ true → Some k ≡ first_from d least k
-    near_peak least t = rw (keep_step (is_near d least) k 199 more, t)
+-- ---- the first of the numbers below b, from a on, that pass
 
-    pub near_none : (least : Float) → is_near d least k ≡ false → first_from d least (k + 1) ≡ first_from d least k
-    near_none least t = rw (keep_step (is_near d least) k 199 more, t)
+module _ (t : ℕ → Bool) where
+  first_none : (a n : ℕ) → ((k : ℕ) → a ≤ k → k < a + n → t k ≡ false) → None ≡ first (keep t a n)
+  unfolding keep
+  first_none a zero h = refl
+  first_none a (suc n) h = rw (h a (omega arith) (omega arith)) (first_none (suc a) n (λ k l m. h k (omega arith) (omega arith)))
+
+  first_some : (a n i : ℕ) → a ≤ i → i < a + n → t i ≡ true → ((k : ℕ) → a ≤ k → k < i → t k ≡ false) → Some i ≡ first (keep t a n)
+  unfolding keep
+  first_some a zero i l m e h = absurd (omega arith)
+  first_some a (suc n) i l m e h = go (t a) refl (λ p. first_some (suc a) n i p (omega arith) e (λ k u v. h k (omega arith) v))
+    where
+      same : (b : Bool) → t a ≡ true → ltb a i ≡ b → i ≡ a
+      same true f s = absurd (true≢false (sym f ∙ h a (omega arith) (ltb-true a i s)))
+      same false f s = let u : i ≤ a = ltb-false a i s in omega arith
+
+      past : (b : Bool) → t a ≡ false → ltb a i ≡ b → suc a ≤ i
+      past true f s = let u : a < i = ltb-true a i s in omega arith
+      past false f s = let u : i ≤ a = ltb-false a i s in let v : i ≡ a = omega arith in absurd (true≢false (sym e ∙ ap t v ∙ f))
+
+      go : (b : Bool) → t a ≡ b → (suc a ≤ i → Some i ≡ first (keep t (suc a) n)) → Some i ≡ first (cons_if b a (keep t (suc a) n))
+      go true f later = ap Some (same (ltb a i) f refl)
+      go false f later = later (past (ltb a i) f refl)
+
+  pub first_of : (r : Option ℕ) (a n : ℕ) → MatchOption r ((k : ℕ) → a ≤ k → k < a + n → t k ≡ false) (λ i. (a ≤ i) × (i < a + n) × (t i ≡ true) × ((k : ℕ) → a ≤ k → k < i → t k ≡ false))
+      → r ≡ first (keep t a n)
+  first_of None a n h = first_none a n h
+  first_of (Some i) a n h = first_some a n i h.0 h.1 h.2 h.3
 
 -- ---- a peak that is found is one of those that were looked at
 

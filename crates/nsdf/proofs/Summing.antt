@@ -8,7 +8,7 @@ use mathlib.Core.Logic.{◌⊎◌, inr, ⊎_elim}
 use lib.IntN.{ℤ, pos, nat_abs, ◌+ℤ◌, ◌*ℤ◌, +ℤ_assoc, +ℤ_idr}
 use lib.ListN.{length, drop, drop_of_length-le}
 use mir.Syntax.{w64}
-use mir.Val.{to_z, of_z}
+use mir.Val.{SFits, to_z, of_z}
 use mir.ValLaws.{to_z-of_z}
 use Rattle.nsdf.proofs.Whole.{small, abs_add, abs_mul}
 use Rattle.nsdf.specs.Nsdf.{cross, power, square, normalised, nsdf}
@@ -29,6 +29,16 @@ no_power (x ∷ xs) (y ∷ ys) h = ⊎_elim (λ e. absurd (omega (arith, ap leng
 
 pub power_end : (w xs : List ℤ) (j : ℕ) → length w ≤ j → power xs (drop j w) ≡ 0
 power_end w xs j h = no_power xs (drop j w) (inr (drop_of_length-le w h))
+
+-- ---- sums of products in an i64
+
+-- a product reads back as itself
+pub product_back : (r : ℤ) → nat_abs r ≤ 1073741824 → to_z w64 (of_z w64 r) ≡ r
+product_back r h = to_z-of_z w64 r (small r (omega (arith, h)))
+
+-- one product more still fits
+pub sum_fits : (sum : ℤ) (i : ℕ) (r : ℤ) → i ≤ 512 → nat_abs sum ≤ 1073741824 * i → nat_abs r ≤ 1073741824 → SFits w64 (sum +ℤ r)
+sum_fits sum i r few so_far h = small (sum +ℤ r) (omega (arith, abs_add sum r, few, so_far, h))
 
 -- ---- the loops: what is added so far, with the pairs of xs and ys, which are still to come, is the whole
 

@@ -4,6 +4,7 @@ ghost use Rattle.lists.specs.By.{better};
 ghost use Rattle.nsdf.specs.Period.{measured, is_peak, above, best_peak, is_near, first_peak, clamped, shift, refined, estimated, period_hz};
 
 use crate::sums::{Squares, Window};
+use std::array;
 
 // Samples on either side of the centre of the window.
 const HALF_WINDOW: usize = 256;
@@ -17,27 +18,6 @@ const NEAR_BEST: f64 = 0.9;
 // Samples a second.
 const SAMPLE_RATE: f64 = 16000.0;
 
-// The periodicity at lags 31 to 230; 0 at those that leave no pair.
-fn measured(window: Window<'_>) -> [f64; 200]
-    ensures { result ≡ measured window.entry.samples.now }
-{
-    let squares = Squares::of(window);
-    // Written by index: of `array::from_fn` it is not known that the later calls of a closure are of what it held at first.
-    let mut d = [0.0f64; 200];
-    for k in 0..200 {
-        d[k] = squares.nsdf(FIRST_LAG + k);
-    }
-    d
-}
-
-// Higher than on its left, and at least as high as on its right.
-fn is_peak(d: &[f64; 200], k: usize) -> bool
-    requires { (0 < k) × (k < 199) }
-    ensures { result ≡ is_peak d.now k }
-{
-    d[k] > d[k - 1] && d[k] >= d[k + 1]
-}
-
 // The larger of two numbers, the first where they are equal or one is a NaN. By hand, as `max` answers otherwise there.
 fn larger(x: f64, y: f64) -> f64
     ensures { result ≡ better above x y }
@@ -45,41 +25,7 @@ fn larger(x: f64, y: f64) -> f64
     if x < y { y } else { x }
 }
 
-// The value of the highest peak: minus infinity where there is none. No `Option`: the search begins with it, and like any value
-// below 0.6 it gives no pitch, so a `None` would be a second way to say the same.
-fn best_peak(d: &[f64; 200]) -> f64
-    ensures { result ≡ best_peak d.now }
-{
-    let mut best = f64::NEG_INFINITY;
-    for k in 1..199 {
-        if is_peak(d, k) {
-            best = larger(best, d[k]);
-        }
-    }
-    best
-}
-
-// A peak that is not below `least`.
-fn is_near(d: &[f64; 200], least: f64, k: usize) -> bool
-    requires { (0 < k) × (k < 199) }
-    ensures { result ≡ is_near d.now least k }
-{
-    is_peak(d, k) && d[k] >= least
-}
-
-// The first such peak: the shortest lag.
-fn first_peak(d: &[f64; 200], least: f64) -> Option<usize>
-    ensures { result ≡ first_peak d.now least }
-{
-    for k in 1..199 {
-        if is_near(d, least, k) {
-            return Some(k);
-        }
-    }
-    None
-}
-
-// x brought to -0.5 or 0.5 where it lies outside.
+// x brought to -0.5 or 0.5 where it lies outside. A name of ours over one call: the definition of this name is what contracts speak of.
 fn clamped(x: f64) -> f64
     ensures { result ≡ clamped x }
 {
@@ -97,25 +43,83 @@ fn shift(a: f64, b: f64, c: f64) -> f64
     0.0
 }
 
-// The lag of the peak at k, moved by at most half a sample to the top of the parabola.
-fn refined(d: &[f64; 200], k: usize) -> f64
-    requires { (0 < k) × (k < 199) }
-    ensures { result ≡ refined d.now k }
-{
-    let by = shift(d[k - 1], d[k], d[k + 1]);
-    (FIRST_LAG + k) as f64 + clamped(by)
+// The periodicity of a window at lags 31 to 230, that of lag 31 + k at k; 0 at those that leave no pair.
+#[derive(Drop)]
+struct Measured {
+    at: [f64; 200],
 }
 
-// The pitch of the first peak that reaches 0.9 of the best, rounded. None where the best is below 0.6 or there is no peak.
-fn estimated(d: &[f64; 200]) -> Option<f64>
-    ensures { result ≡ estimated d.now }
-{
-    let best = best_peak(d);
-    if best < MIN_PERIODICITY {
-        return None;
+impl Measured {
+    fn of(window: Window<'_>) -> Measured
+        ensures { result.at ≡ measured window.entry.samples.now }
+    {
+        let squares = Squares::of(window);
+        Measured {
+            at: array::from_fn(
+                |k|
+                    requires { k < 200 }
+                { squares.nsdf(FIRST_LAG + k) },
+            ),
+        }
     }
-    let k = first_peak(d, NEAR_BEST * best)?;
-    Some(SAMPLE_RATE / refined(d, k))
+
+    // Higher than on its left, and at least as high as on its right.
+    fn is_peak(&self, k: usize) -> bool
+        requires { (0 < k) × (k < 199) }
+        ensures { result ≡ is_peak self.now.at k }
+    {
+        self.at[k] > self.at[k - 1] && self.at[k] >= self.at[k + 1]
+    }
+
+    // The value of the highest peak: minus infinity where there is none. No `Option`: the search begins with it, and like any value
+    // below 0.6 it gives no pitch, so a `None` would be a second way to say the same.
+    fn best_peak(&self) -> f64
+        ensures { result ≡ best_peak self.now.at }
+    {
+        let mut best = f64::NEG_INFINITY;
+        for k in 1..199 {
+            if self.is_peak(k) {
+                best = larger(best, self.at[k]);
+            }
+        }
+        best
+    }
+
+    // A peak that is not below `least`.
+    fn is_near(&self, least: f64, k: usize) -> bool
+        requires { (0 < k) × (k < 199) }
+        ensures { result ≡ is_near self.now.at least k }
+    {
+        self.is_peak(k) && self.at[k] >= least
+    }
+
+    // The first such peak: the shortest lag.
+    fn first_peak(&self, least: f64) -> Option<usize>
+        ensures { result ≡ first_peak self.now.at least }
+    {
+        (1..199).find(|k| self.is_near(least, *k))
+    }
+
+    // The lag of the peak at k, moved by at most half a sample to the top of the parabola.
+    fn refined(&self, k: usize) -> f64
+        requires { (0 < k) × (k < 199) }
+        ensures { result ≡ refined self.now.at k }
+    {
+        let by = shift(self.at[k - 1], self.at[k], self.at[k + 1]);
+        (FIRST_LAG + k) as f64 + clamped(by)
+    }
+
+    // The pitch of the first peak that reaches 0.9 of the best, rounded. None where the best is below 0.6 or there is no peak.
+    fn estimated(&self) -> Option<f64>
+        ensures { result ≡ estimated self.now.at }
+    {
+        let best = self.best_peak();
+        if best < MIN_PERIODICITY {
+            return None;
+        }
+        let k = self.first_peak(NEAR_BEST * best)?;
+        Some(SAMPLE_RATE / self.refined(k))
+    }
 }
 
 // The pitch of a take around a sample, if it repeats well enough there, from the 512 samples centred on it, as far as the
@@ -130,5 +134,5 @@ pub fn period_hz(samples: &[i16], centre: usize) -> Option<f64>
     let window = Window {
         samples: &samples[start..end],
     };
-    estimated(&measured(window))
+    Measured::of(window).estimated()
 }

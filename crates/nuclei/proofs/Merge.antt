@@ -14,7 +14,6 @@ use Rattle.std.specs.Prelude.{None, Some, slice_get}
 use Rattle.lists.specs.Results.{keep}
 use Rattle.lists.specs.By.{Each}
 use Rattle.lists.specs.Sorted.{StrictlyRises}
-use Rattle.lists.specs.Marks.{member, in_order}
 use Rattle.lists.specs.Stack.{Falls}
 use Rattle.lists.proofs.Fill.{keep_step, keep_over}
 use Rattle.lists.proofs.Entries.{each_append}
@@ -80,6 +79,13 @@ module _ (l rest : List ℕ) (prev : ℕ) (g : slice_get l (length l - 1) ≡ So
 pub merge_none : (one : ℕ → ℕ → Bool) (left : ℕ → ℕ → ℕ) (l : List ℕ) (x : ℕ) → slice_get l (length l - 1) ≡ None → reverse (l ++ (x ∷ [])) ≡ push_by one left (reverse l) x
 unfolding push_by
 merge_none one left l x e = rw (none_kept l e)
+
+-- a frame that is put onto earlier ones
+pub falls_snoc : (l : List ℕ) (x : ℕ) → Falls x (reverse l) → Falls (x + 1) (reverse (l ++ (x ∷ [])))
+falls_snoc l x f = rw (reverse_snoc l x) (omega arith, f)
+
+pub kept_few : (l : List ℕ) (i : ℕ) → Falls i (reverse l) → length l ≤ i
+kept_few l i f = omega (arith, falls_few i (reverse l) f, length-reverse l)
 
 -- ---- no two neighbours that are kept are one
 module _ (one : ℕ → ℕ → Bool) (left : ℕ → ℕ → ℕ) where
@@ -173,34 +179,23 @@ module _ (one : ℕ → ℕ → Bool) (left : ℕ → ℕ → ℕ) (picks : Pick
   unfolding merged
   merged_rises n xs s = falls_rise n (merge_by one left [] xs) (merge_falls [] 0 n xs (omega arith) tt s)
 
-  -- ---- the walk over the frames below n that a list holds
-  module _ (cs : List ℕ) (n : ℕ) where
-    -- `kept` is what is kept of the frames below i
-    pub record Merging (kept : List ℕ) (i : ℕ) : Type 0 where
-      pub order : Falls i (reverse kept)
-      pub same : merge_by one left (reverse kept) (keep (member cs) i (n - i)) ≡ merge_by one left [] (in_order cs n)
+-- ---- the walk over the frames below n that pass a test
+module _ (one : ℕ → ℕ → Bool) (left : ℕ → ℕ → ℕ) (test : ℕ → Bool) (n : ℕ) where
+  -- `kept` is what is kept of the frames below i
+  abbrev pub Merging : List ℕ → ℕ → Type 0
+  Merging kept i = merge_by one left (reverse kept) (keep test i (n - i)) ≡ merge_by one left [] (keep test 0 n)
 
-    pub merging_start : Merging [] 0
-    unfolding in_order
-    merging_start = record { order = tt; same = rw sub-zero }
+  pub merging_start : Merging [] 0
+  merging_start = rw sub-zero
 
-    module _ {kept : List ℕ} {i : ℕ} (m : Merging kept i) where
-      pub merging_few : length kept ≤ i
-      merging_few = omega (arith, falls_few i (reverse kept) m.order, length-reverse kept)
+  module _ (kept : List ℕ) (i : ℕ) (m : Merging kept i) where
+    pub merging_not : i < n → test i ≡ false → Merging kept (i + 1)
+    merging_not h e = rw (keep_step test i n h, e) at m
 
-      pub merging_not : i < n → member cs i ≡ false → Merging kept (i + 1)
-      merging_not h e = record {
-        order = falls_under i (i + 1) (reverse kept) (omega arith) m.order;
-        same = rw (keep_step (member cs) i n h, e) at m.same;
-      }
+    pub merging_one : i < n → test i ≡ true → (kept' : List ℕ) → reverse kept' ≡ push_by one left (reverse kept) i → Merging kept' (i + 1)
+    unfolding merge_by
+    merging_one h e kept' q = rw q (rw (keep_step test i n h, e) at m)
 
-      pub merging_one : i < n → member cs i ≡ true → {kept' : List ℕ} → reverse kept' ≡ push_by one left (reverse kept) i → Merging kept' (i + 1)
-      unfolding merge_by
-      merging_one h e {kept'} q = record {
-        order = rw q (push_falls (reverse kept) i (i + 1) (omega arith) m.order);
-        same = rw q (rw (keep_step (member cs) i n h, e) at m.same);
-      }
-
-      pub merging_end : n ≤ i → kept ≡ merged one left (in_order cs n)
-      unfolding merged merge_by
-      merging_end h = sym (reverse-reverse kept) ∙ ap reverse (rw (keep_over (member cs) i n h) at m.same)
+    pub merging_end : n ≤ i → kept ≡ merged one left (keep test 0 n)
+    unfolding merged merge_by
+    merging_end h = sym (reverse-reverse kept) ∙ ap reverse (rw (keep_over test i n h) at m)

@@ -1,7 +1,8 @@
 // Nuclei: one frame for each syllable, with its level over the floor.
 // Frames and strengths go to two lent lists with one count, and a region comes as two numbers: the C interface lends and gives
 // them so, and the layer that makes records of them was asked for by name (docs/DECISIONS.md).
-// That a track has at most 2,048 frames is a `requires` and no type: a type round the slice would be opened at each use.
+// That a track has at most 2,048 frames, and that lists of runs are no longer, is a `requires` and no type: C and files give
+// plain slices, and a type round them would have to be made before each call.
 #![tactic(auto)]
 
 pub mod merging;

@@ -23,7 +23,7 @@ impl<'a> RegionLevel<'a> {
         ensures { result ≡ speech_by_level self.entry.level.now self.entry.bounds at }
     {
         let i = at as usize;
-        (self.bounds.start <= i && i < self.bounds.end) && self.bounds.threshold <= self.level[i]
+        (self.bounds.start..self.bounds.end).contains(&i) && self.bounds.threshold <= self.level[i]
     }
 }
 

@@ -11,7 +11,7 @@ use lib.ListN.{length, get_or, get_or-eq_default}
 use lib.Ieee.{Float}
 use Rattle.floats.specs.Plain.{zero_f}
 use Rattle.lists.proofs.Walks.{First, first_is, first_only, none_yet, back_start, back_stop, back_found}
-use Rattle.std.specs.Prelude.{Option, None, Some}
+use Rattle.std.specs.Prelude.{Option, None, Some, MatchOption, unwrap_or}
 use Rattle.recover.specs.Recovered.{near, starts, start_of, end_of, island, stored, recovered_at}
 
 near_none : (e : Option Float) → near e None ≡ false
@@ -43,6 +43,13 @@ module _ (es : List (Option Float)) where
       go : (b : Bool) → leb (length es) (end_of es i) ≡ b → starts es (end_of es i) ≡ true
       go true e = none_starts (end_of es i) (get_or-eq_default es None (leb-true (length es) (end_of es i) e))
       go false e = (first_after i).here (omega (arith, leb-false (length es) (end_of es i) e))
+
+  -- what the library finds from the next frame on; where it finds none, the end of the list
+  pub end_found : (i : ℕ) → i < length es → (r : Option ℕ)
+      → MatchOption r ((k : ℕ) → i + 1 ≤ k → k < length es → starts es k ≡ false) (λ e. (i + 1 ≤ e) × (e < length es) × (starts es e ≡ true) × ((k : ℕ) → i + 1 ≤ k → k < e → starts es k ≡ false))
+      → unwrap_or r (length es) ≡ end_of es i
+  end_found i h None n = first_only (starts es) (i + 1) (length es - (i + 1)) (length es) (record { low = omega arith; high = omega arith; before = n; here = λ l. absurd (omega arith) })
+  end_found i h (Some e) f = first_only (starts es) (i + 1) (length es - (i + 1)) e (record { low = f.0; high = omega (arith, f.1); before = f.3; here = λ l. f.2 })
 
   -- that of a frame with no estimate is the frame alone
   module _ (i : ℕ) (e : get_or es i None ≡ None) where

@@ -1,6 +1,8 @@
 // Pitches that the tracker left out, recovered from the samples in two steps: an estimate for each frame that is tried, then
 // the track from the estimates, which reads no samples.
-// That a track has at most 2,048 frames is a `requires` and no type: a type round the slice would be opened at each use.
+// That a track has at most 2,048 frames is a `requires` and no type: C gives plain slices, and a type round them would have to be
+// made before each call. The track and its marks are parameters of their own here: the pitches are written while `Marked` would
+// lend them.
 #![tactic(auto)]
 
 pub mod estimates;
@@ -18,7 +20,8 @@ fn recover_tried(pitch: &mut [f32], samples: &[i16], speech: &[u8], vowel: &[u8]
     ensures { pitch.new ≡ recovered pitch.old samples.now speech.now
         vowel.now }
 {
-    // The pitches as given, which the recovery looks at while it writes.
+    // The pitches as given, which the recovery looks at while it writes. They lie in a part of a table: `ArrayVec::try_from` would
+    // have a refusal, which cannot come here.
     let mut given = [0.0f32; 2048];
     let given = &mut given[..pitch.len()];
     given.copy_from_slice(pitch);

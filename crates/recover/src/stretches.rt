@@ -1,4 +1,6 @@
 // The track from the estimates: stretches of neighbouring estimates, and which of them are recovered.
+// That estimates lie in 60 to 600 Hz is a `requires` and no type: `period_hz` gives plain numbers, and a list of a type of their
+// own would be made for these three functions.
 ghost use Rattle.std.specs.Prelude.{◌≡◌, map, ◌-◌, ◌≤◌, ◌<◌, length};
 ghost use Rattle.lists.specs.By.{Each};
 ghost use Rattle.lists.specs.Results.{replaced};
@@ -26,18 +28,16 @@ fn joins(estimates: &[Option<f64>], i: usize) -> bool
     within_step(last, here)
 }
 
-// One past the last frame of the stretch that frame s is in. A frame with no estimate is one by itself.
+// One past the last frame of the stretch that frame s is in. A frame with no estimate is one by itself. The library's `find` and
+// not `first_from`, which looks at 16 frames together: each look compares two powers, and most stretches end before.
 fn end_of(estimates: &[Option<f64>], s: usize) -> usize
     requires each { Each InRange estimates.now }
     requires s_in_bounds { s < length estimates.now }
     ensures { result ≡ end_of estimates.now s }
 {
-    for i in s + 1..estimates.len() {
-        if !joins(estimates, i) {
-            return i;
-        }
-    }
-    estimates.len()
+    (s + 1..estimates.len())
+        .find(|i| !joins(estimates, *i))
+        .unwrap_or(estimates.len())
 }
 
 // Whether no frame from a to before b has a pitch.
@@ -87,7 +87,7 @@ pub fn recover_stretches(estimates: &[Option<f64>], given: &[f32], pitch: &mut [
     ensures { pitch.new ≡ recovered_from given.now estimates.now }
 {
     let mut s = 0;
-    // no `for`: it goes from stretch to stretch
+    // A `while`: it goes from stretch to stretch; an own iterator, as `runs` has for two walks, is no plainer for one.
     while s < estimates.len() {
         let e = end_of(estimates, s);
         if is_island(given, s, e) {

@@ -1,5 +1,6 @@
 // Where a take holds speech: its floor, the threshold over it, the speech frames and the region that they span.
-// That a track has at most 2,048 frames is a `requires` and no type: a type round the slice would be opened at each use.
+// That a track has at most 2,048 frames is a `requires` and no type: C and files give plain slices, and a type round them would
+// have to be made before each call.
 #![tactic(auto)]
 
 ghost use Rattle.std.specs.Prelude.{◌≡◌, ◌+◌, ◌<◌, ◌≤◌, min, map, [], length, take, slice_index, MatchOption};
@@ -63,7 +64,8 @@ pub struct Bounds {
     pub end: usize,
 }
 
-// Writes where each dB stands among the finite ones to the front of keys, by frames. By index: `zip` took 1.4 times as long.
+// Writes where each dB stands among the finite ones to the front of keys, by frames. By index: `iter_mut().zip`
+// took 1.4 times as long.
 fn finite_keys(db: &[f32], keys: &mut [u32])
     requires { length db.now ≤ length keys.old }
     ensures { keys.new ≡ overlay (map finite_key db.now) keys.old }
@@ -152,7 +154,7 @@ pub fn is_speech(threshold: f32, d: f32) -> bool
 }
 
 // Marks the speech frames of a track, given its threshold, by 1 and the others by 0, at the front of out, whose entries past
-// the track stay. Marks are bytes, as C lends them; they are written by index: `zip` took 1.4 times as long.
+// the track stay. Marks are bytes, as C lends them; they are written by index: `iter_mut().zip` took 1.4 times as long.
 pub fn marks_above(db: &[f32], threshold: f32, out: &mut [u8])
     requires { length db.now ≤ length out.old }
     ensures { out.new ≡ overlay (speech_marks threshold db.now) out.old }
@@ -171,7 +173,8 @@ pub fn speech_frames(db: &[f32], p: Settings, out: &mut [u8])
     marks_above(db, speech_threshold(db, p), out);
 }
 
-// How many frames are speech.
+// How many frames are speech. The dB and the threshold are parameters in all these functions: two public ones take them so, and
+// a struct for them, as boundaries has, would be made anew in each.
 fn speech_count(db: &[f32], threshold: f32) -> u32
     requires { length db.now ≤ 2048 }
     ensures { result ≡ length (speech_frames threshold db.now) }

@@ -7,8 +7,8 @@ use mathlib.Core.Path.{◌≡◌, refl, sym, ap, ◌∙◌, subst}
 use mathlib.Core.Bool.{true, false, true≢false}
 use mathlib.Core.List.{List, [], ◌∷◌, ◌++◌, append_assoc, append-nil, map}
 use mathlib.Core.Logic.{⊎_elim}
-use lib.ListN.{length, get_or, drop, set, length-map}
-use lib.Seq.{ext_get_or}
+use lib.ListN.{length, get_or, take, drop, set, length-map}
+use lib.Seq.{ext_get_or, get_or-take, get_or-drop}
 use lib.Dec.{T}
 use lib.Ieee.{Float, nan, ne, binary32, fits}
 use Rattle.floats.specs.Plain.{zero_f}
@@ -108,6 +108,10 @@ module _ (pitch : List Float) (r : Span) (a : Pitches 40 2000 pitch) (l : LongIn
 
 -- ---- their places in the total order: those so far, and those of the frames from i on
 module _ (pitch : List Float) (r : Span) where
+  -- the k-th pitch of the run's part of the track
+  pub run_at : (k : ℕ) → k < r.last + 1 - r.first → get_or (take (r.last + 1 - r.first) (drop r.first pitch)) k nan ≡ at pitch (r.first + k)
+  run_at k h = get_or-take (r.last + 1 - r.first) (drop r.first pitch) k nan h ∙ get_or-drop r.first pitch k nan
+
   pub record Placing (keys : List ℕ) (i : ℕ) : Type 0 where
     pub whole : keys ++ map (key_at pitch) (keep (voiced pitch) i (r.last + 1 - i)) ≡ map (key_at pitch) (voiced_in pitch r)
 

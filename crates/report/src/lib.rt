@@ -1,5 +1,6 @@
 // What the program `marks` prints, on bytes: a take file in, its listing out.
-// That a track has at most 2,048 frames is a `requires` and no type where tracks are lent to be written.
+// That a track has at most 2,048 frames is a `requires` and no type where tracks are lent to be written; so is that a file is
+// as long as its head says: it is `take_refusal` that finds both, before the tracks are there.
 #![tactic(auto)]
 
 ghost use Rattle.std.specs.Prelude.{◌≡◌, ◌+◌, ◌*◌, ◌≤◌, [], length};
@@ -45,7 +46,8 @@ fn show(given: &[f32], call: Answered<'_>) -> Page<LARGEST_LISTING>
 }
 
 // Runs the chain without samples on lent tracks and result lists, and gives the listing.
-// What is written is lent one by one, here and below: a call that is lent two lists of one struct is refused.
+// What is written is lent one by one, here and below: a call that is lent two lists of one struct is refused; what is only
+// read goes with it, as the chain takes it.
 fn list_marks(
     given: &[f32],
     db: &[f32],

@@ -17,6 +17,7 @@ use Rattle.runs.specs.Runs.{long_runs, InTrack, Spaced}
 use Rattle.runs.specs.Syllables.{breaks_from, unbroken, across, syllables_of, syllable_runs, gap, gaps, dropouts_of, dropouts}
 use Rattle.lists.proofs.Grouping.{Joins, attach_join, attach_cut, grouped_unions}
 use Rattle.runs.proofs.Spacing.{grouped_spaced, long_spaced, long_few}
+use Rattle.lists.proofs.Windows.{FirstTwo, first_two}
 use Rattle.runs.proofs.Pushing.{push_room, push_on}
 
 -- ---- one syllable run
@@ -147,7 +148,8 @@ module _ (pitch : List Float) where
 
   -- ---- the dropouts so far, and those among the runs that are left, from the one before the next gap on
   module _ (runs : List Span) where
-    pub record Gapping (done left : List Span) : Type 0 where
+    pub record Gapping (done left : List Span) (size : ℕ) : Type 0 where
+      pub two : size ≡ 2
       pub within : InTrack (length pitch) left
       pub whole : done ++ dropouts_of pitch left ≡ dropouts_of pitch runs
 
@@ -155,54 +157,41 @@ module _ (pitch : List Float) where
     abbrev pub of_two : List Span → ℕ → Span
     of_two pair k = get_or pair k (record { first = 0; last = 0 })
 
-    module _ {done left pair : List Span} (two : 2 ≤ length left) (e : pair ≡ take 2 left) (g : Gapping done left) where
-      abbrev between : Span
-      between = gap (of_two pair 0) (of_two pair 1)
+    module _ {done left : List Span} {size : ℕ} (g : Gapping done left size) where
+      module _ {pair left' : List Span} {size' : ℕ} (s : size' ≡ size) (h : size ≤ length left) (e : pair ≡ take size left) (f : left' ≡ drop 1 left) where
+        split : FirstTwo (record { first = 0; last = 0 }) left pair left'
+        split = first_two (record { first = 0; last = 0 }) left g.two h e f
 
-      abbrev kept : Bool
-      kept = not (breaks_from pitch between.first between.last)
+        abbrev between : Span
+        between = gap (of_two pair 0) (of_two pair 1)
 
-      left_is : left ≡ of_two pair 0 ∷ of_two pair 1 ∷ drop 2 left
-      left_is = go left two e
-        where
-          go : (rs : List Span) → 2 ≤ length rs → pair ≡ take 2 rs → rs ≡ of_two pair 0 ∷ of_two pair 1 ∷ drop 2 rs
-          go [] k q = absurd (omega arith)
-          go (a ∷ []) k q = absurd (omega arith)
-          go (a ∷ b ∷ rs) k q = rw q refl
+        abbrev kept : Bool
+        kept = not (breaks_from pitch between.first between.last)
 
-      rest_is : drop 1 left ≡ of_two pair 1 ∷ drop 2 left
-      rest_is = ap (drop 1) left_is
+        rest_within : InTrack (length pitch) left'
+        rest_within = rw split.next (subst (InTrack (length pitch)) split.whole g.within).1
 
-      both_within : InTrack (length pitch) (of_two pair 0 ∷ of_two pair 1 ∷ drop 2 left)
-      both_within = subst (InTrack (length pitch)) left_is g.within
+        now : done ++ cons_if kept between (dropouts_of pitch left') ≡ dropouts_of pitch runs
+        unfolding dropouts_of gaps filter
+        now = rw split.next (subst (λ (rs : List Span). done ++ dropouts_of pitch rs ≡ dropouts_of pitch runs) split.whole g.whole)
 
-      pub gapping_within : (between.first < length pitch) × (between.last < length pitch)
-      gapping_within = (both_within.0.1, omega (arith, both_within.1.0.0, both_within.1.0.1))
+        here : kept ≡ true → done ++ (between ∷ dropouts_of pitch left') ≡ dropouts_of pitch runs
+        here k = rw k at now
 
-      now : done ++ cons_if kept between (dropouts_of pitch (drop 1 left)) ≡ dropouts_of pitch runs
+        pub gapping_room : kept ≡ true → length done < length runs
+        gapping_room k = push_room _ _ _ (here k) (length runs) (omega (arith, syllables_and_dropouts runs))
+
+        pub gapping_yes : kept ≡ true → Gapping (done ++ (between ∷ [])) left' size'
+        gapping_yes k = record { two = s ∙ g.two; within = rest_within; whole = push_on _ _ _ (here k) }
+
+        pub gapping_no : kept ≡ false → Gapping done left' size'
+        gapping_no k = record { two = s ∙ g.two; within = rest_within; whole = rw k at now }
+
+      pub gapping_end : length left < size → done ≡ dropouts_of pitch runs
       unfolding dropouts_of gaps filter
-      now = rw rest_is (subst (λ (rs : List Span). done ++ dropouts_of pitch rs ≡ dropouts_of pitch runs) left_is g.whole)
-
-      here : kept ≡ true → done ++ (between ∷ dropouts_of pitch (drop 1 left)) ≡ dropouts_of pitch runs
-      here k = rw k at now
-
-      rest_within : InTrack (length pitch) (drop 1 left)
-      rest_within = rw rest_is both_within.1
-
-      pub gapping_room : kept ≡ true → length done < length runs
-      gapping_room k = push_room _ _ _ (here k) (length runs) (omega (arith, syllables_and_dropouts runs))
-
-      pub gapping_yes : kept ≡ true → Gapping (done ++ (between ∷ [])) (drop 1 left)
-      gapping_yes k = record { within = rest_within; whole = push_on _ _ _ (here k) }
-
-      pub gapping_no : kept ≡ false → Gapping done (drop 1 left)
-      gapping_no k = record { within = rest_within; whole = rw k at now }
-
-    pub gapping_end : {done left : List Span} → length left < 2 → Gapping done left → done ≡ dropouts_of pitch runs
-    unfolding dropouts_of gaps filter
-    gapping_end {done} {left} h g = sym (append-nil done) ∙ rw (over left h) at g.whole
-      where
-        over : (rs : List Span) → length rs < 2 → dropouts_of pitch rs ≡ []
-        over [] k = refl
-        over (a ∷ []) k = refl
-        over (a ∷ b ∷ rs) k = absurd (omega arith)
+      gapping_end h = sym (append-nil done) ∙ rw (over left (omega (arith, h, g.two))) at g.whole
+        where
+          over : (rs : List Span) → length rs < 2 → dropouts_of pitch rs ≡ []
+          over [] k = refl
+          over (a ∷ []) k = refl
+          over (a ∷ b ∷ rs) k = absurd (omega arith)

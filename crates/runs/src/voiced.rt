@@ -17,7 +17,8 @@ pub const MIN_RUN_FRAMES: u32 = 5;
 // The most runs that a track of 2,048 frames has: each begins 4 frames or more after the one before it.
 pub const MOST_RUNS: usize = 512;
 
-// A run by its first and last frame alone.
+// A run by its first and last frame alone. That the first is not after the last is not in it: `run_of` takes any runs, and
+// a gap (`dropouts`) is a `Span` too.
 #[derive(Clone, Copy, Default)]
 pub struct Span {
     pub first: u32,

@@ -13,7 +13,8 @@ pub fn count(keys: &[u32], x: u32) -> u32
     lists::count::count_if(keys, |k| k <= x)
 }
 
-// The smallest key; the largest u32 where there is no key.
+// The smallest key; the largest u32 where there is no key. Numbers and no `Option` here and below, as the definitions have it:
+// `kth` and `next` ask only of lists that have a key.
 fn least(keys: &[u32]) -> u32
     ensures { result ≡ least_of keys.now }
 {

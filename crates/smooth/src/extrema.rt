@@ -24,8 +24,7 @@ fn is_beyond(kind: Extremum, x: f32, y: f32) -> bool
     }
 }
 
-// Whether frame i is beyond the frame before it; at the start of the track it is. By index, as all here that is asked or
-// answered of a frame's place.
+// Whether frame i is beyond the frame before it; at the start of the track it is.
 fn left_clear(s: &[f32], kind: Extremum, i: usize) -> bool
     requires { i < length s.now }
     ensures { result ≡ left_clear kind s.now i }
@@ -55,7 +54,7 @@ fn is_offered(s: &[f32], lo: usize, hi: usize, kind: Extremum, i: usize, j: usiz
     ensures { result ≡ offered kind s.now lo hi i j }
 {
     let mid = middle(i, j);
-    (left_clear(s, kind, i) && right_clear(s, kind, j)) && (lo <= mid && mid < hi)
+    (left_clear(s, kind, i) && right_clear(s, kind, j)) && (lo..hi).contains(&mid)
 }
 
 // The last frame of the flat stretch from i on, as far as b. No method of `Part`: from a `Part` that it builds,
@@ -91,7 +90,7 @@ pub fn local_extrema<const N: usize>(
     found.clear();
     let mut i = 0;
     let mut j = 0;
-    // no `for`: a flat stretch is passed at once
+    // A `while`: a flat stretch is passed at once. An own iterator, as `runs` has for two walks, is no plainer for one.
     while j < s.len() {
         if ends_at(s, j) {
             if is_offered(s, lo, hi, kind, i, j) {
@@ -158,6 +157,7 @@ impl Part<'_> {
             × ((self.entry.a ≤ result) × (result ≤ self.entry.b)) }
     {
         let m = self.furthest(kind);
+        // A loop: with `first_from`, which looks at 16 frames together, 8 frames take 1.7 and 30 take 1.3 times as long.
         for i in self.a..self.b {
             if !is_beyond(kind, m, self.s[i]) {
                 return i;

@@ -20,7 +20,7 @@ impl<const N: usize> Model for Page<N> {
 }
 
 impl<const N: usize> Page<N> {
-    pub(crate) fn new() -> Page<N>
+    pub fn new() -> Page<N>
         ensures { result ≡ [] }
     {
         Page {
@@ -34,14 +34,14 @@ impl<const N: usize> Page<N> {
         self.bytes.as_slice()
     }
 
-    pub(crate) fn byte(&mut self, b: u8)
+    pub fn byte(&mut self, b: u8)
         requires { length self.old < N }
         ensures { self.new ≡ self.old ++ b ∷ [] }
     {
         self.bytes.push(b);
     }
 
-    pub(crate) fn text(&mut self, text: &[u8])
+    pub fn text(&mut self, text: &[u8])
         requires { length self.old + length text.now ≤ N }
         ensures { self.new ≡ self.old ++ text.now }
     {
@@ -49,7 +49,7 @@ impl<const N: usize> Page<N> {
     }
 
     // A space and a decimal number.
-    pub(crate) fn number(&mut self, n: u32)
+    pub fn number(&mut self, n: u32)
         requires { length self.old + length (32 ∷ decimal n) ≤ N }
         ensures { self.new ≡ self.old ++ 32 ∷ decimal n }
     {
@@ -58,7 +58,7 @@ impl<const N: usize> Page<N> {
     }
 
     // A space and the bits of an f32, in hexadecimal digits.
-    pub(crate) fn bits(&mut self, x: f32)
+    pub fn bits(&mut self, x: f32)
         requires { length self.old + length (32 ∷ hex (to_bits binary32 x)) ≤ N }
         ensures { self.new ≡ self.old ++ 32 ∷ hex (to_bits binary32 x) }
     {

@@ -1,19 +1,16 @@
 -- `repair_refusal` meets its contract. Assumes nothing.
 use Rattle.std.proofs.Common.{refl}
-use Rattle.std.proofs.lemmas.Result.{err_from_is_err_and}
 use Rattle.admit.specs.Refusals.{tested, refusal, repair_refusal}
 use Rattle.admit.specs.First.{passes}
 use Rattle.admit.specs.Values.{all_of}
-use Rattle.admit.proofs.First.{passed_in_turn, at_once, later, next}
-use Rattle.admit.proofs.Numbered.{not_zero}
+use Rattle.admit.proofs.First.{passed_in_turn, refused_at_once, later, next}
 use Rattle.admit.proofs.Ranges.{n40, n2000}
 use Rattle.admit.proofs.repair_refusal.Goals as goal
 
 pub returns-in_err-lengths_refusal : goal.returns-in_err-lengths_refusal
 unfolding repair_refusal refusal tested passes all_of
 returns-in_err-lengths_refusal c =
-    let p = err_from_is_err_and c.from_residual.result c.from_residual.ensures.1 in
-    rw (p.1, p.2) (at_once _ _ (not_zero _) c.in_err-lengths_refusal.ensures)
+    refused_at_once _ _ _ _ c.from_residual.ensures.1 c.in_err-lengths_refusal.ensures
 
 pub returns : goal.returns
 unfolding repair_refusal refusal tested passes all_of passed_in_turn

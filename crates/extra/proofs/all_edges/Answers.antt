@@ -1,5 +1,5 @@
 -- `extra::all_edges` meets its contract: what there is, with what is left of the one list and then of the other, is the whole. Assumes nothing.
-use Rattle.std.proofs.Common.{arith, refl, sym, ◌∙◌, ◌≡◌, ◌≤◌, ◌||◌, true, false, length, length-append, get_or, take, map, ◌++◌, append-nil}
+use Rattle.std.proofs.Common.{arith, refl, sym, ◌∙◌, ◌≡◌, ◌≤◌, ◌||◌, true, false, length, length-append, get_or, map, ◌++◌, append-nil}
 use lib.ListN.{length-map}
 use Rattle.std.specs.Slice.Iter.{windows_rest}
 use Rattle.lists.proofs.Fill.{drop_step}
@@ -10,7 +10,7 @@ use Rattle.runs.proofs.Pushing.{push_room}
 use Rattle.nuclei.proofs.Steps.{pick_room, pick_yes, pick_no}
 use Rattle.extra.specs.Merging.{mark_at}
 use Rattle.extra.specs.Extra.{edges_between}
-use Rattle.extra.proofs.Edging.{between_few, between_step, between_order, between_rest, between_over}
+use Rattle.extra.proofs.Edging.{between_few, turned, between_over}
 use Rattle.extra.specs.Seconds.{edge_of}
 use Rattle.extra.proofs.all_edges.Goals as goal
 use Rattle.extra.proofs.all_edges.Goals.{then-is_peak-between-via-then-is_peak-between, then-is_peak-between-via-else-is_peak-between+then-is_peak-between-2}
@@ -22,26 +22,21 @@ pub overflow_cast-extremum_middle : goal.overflow_cast-extremum_middle
 overflow_cast-extremum_middle c =
     let s = c.args.s.now in
     let t = mark_at c.args.is_peak.now in
-    let turn = c.in-Some.ensures.steps in
-    let g = c.loop-pair.invariant in
-    let left = windows_rest c.loop-pair.pair-iterator in
     let pair = c.in-Some.pair.now in
-    let two : 2 ≤ length left = omega (arith, turn.1.0, g.0) in
-    let front : pair ≡ take 2 left = rw g.0 at turn.1.1 in
-    let o = between_order s t left pair two front (length s) g.1 in
-    omega (arith, c.extremum_middle.ensures, (middle_within Min s (get_or pair 0 0) (get_or pair 1 0) (omega arith) o.1).1)
+    let steps = c.in-Some.ensures.steps in
+    let g = c.loop-pair.invariant in
+    let turn = turned s t (length s) _ (windows_rest c.loop-pair.pair-iterator) pair _ g.0 g.1 steps.1.0 steps.1.1 steps.1.2 in
+    omega (arith, c.extremum_middle.ensures, (middle_within Min s (get_or pair 0 0) (get_or pair 1 0) (omega (arith, turn.order.0)) turn.order.1).1)
 
 pub push-requires : goal.push-requires
 push-requires c =
     let s = c.args.s.now in
     let t = mark_at c.args.is_peak.now in
-    let turn = c.in-Some.ensures.steps in
-    let g = c.loop-pair.invariant in
-    let left = windows_rest c.loop-pair.pair-iterator in
     let pair = c.in-Some.pair.now in
-    let two : 2 ≤ length left = omega (arith, turn.1.0, g.0) in
-    let front : pair ≡ take 2 left = rw g.0 at turn.1.1 in
-    let now = rw (between_step s t left pair two front) at g.2 in
+    let steps = c.in-Some.ensures.steps in
+    let g = c.loop-pair.invariant in
+    let turn = turned s t (length s) _ (windows_rest c.loop-pair.pair-iterator) pair _ g.0 g.1 steps.1.0 steps.1.1 steps.1.2 in
+    let now = rw turn.step at g.2 in
     let one : (t (get_or pair 0 0) || t (get_or pair 1 0)) ≡ true =
     elim c.then-is_peak-between.branch [
       | then-is_peak-between-via-then-is_peak-between w ↦ rw w.if-is_peak-between.true
@@ -55,33 +50,29 @@ pub loop-pair-preserved-in-loop-pair : goal.loop-pair-preserved-in-loop-pair
 loop-pair-preserved-in-loop-pair c =
     let s = c.args.s.now in
     let t = mark_at c.args.is_peak.now in
-    let turn = c.in-Some.ensures.steps in
-    let g = c.loop-pair.invariant in
-    let left = windows_rest c.loop-pair.pair-iterator in
     let pair = c.in-Some.pair.now in
-    let two : 2 ≤ length left = omega (arith, turn.1.0, g.0) in
-    let front : pair ≡ take 2 left = rw g.0 at turn.1.1 in
-    let now = rw (between_step s t left pair two front) at g.2 in
+    let steps = c.in-Some.ensures.steps in
+    let g = c.loop-pair.invariant in
+    let turn = turned s t (length s) _ (windows_rest c.loop-pair.pair-iterator) pair _ g.0 g.1 steps.1.0 steps.1.1 steps.1.2 in
+    let now = rw turn.step at g.2 in
     let one : (t (get_or pair 0 0) || t (get_or pair 1 0)) ≡ true =
     elim c.then-is_peak-between.branch [
       | then-is_peak-between-via-then-is_peak-between w ↦ rw w.if-is_peak-between.true
       | then-is_peak-between-via-else-is_peak-between+then-is_peak-between-2 w ↦ rw (w.if-is_peak-between.false, w.if-is_peak-between-2.true)
     ] in
-    (turn.0 ∙ g.0, rw turn.1.2 (between_rest s t left pair two front (length s) g.1), rw (turn.1.2, c.push.ensures.items, c.extremum_middle.ensures) (pick_yes _ _ _ _ now one))
+    (steps.0 ∙ g.0, turn.rises, rw (c.push.ensures.items, c.extremum_middle.ensures) (pick_yes _ _ _ _ now one))
 
 pub loop-pair-preserved : goal.loop-pair-preserved
 loop-pair-preserved c =
     let s = c.args.s.now in
     let t = mark_at c.args.is_peak.now in
-    let turn = c.in-Some.ensures.steps in
-    let g = c.loop-pair.invariant in
-    let left = windows_rest c.loop-pair.pair-iterator in
     let pair = c.in-Some.pair.now in
-    let two : 2 ≤ length left = omega (arith, turn.1.0, g.0) in
-    let front : pair ≡ take 2 left = rw g.0 at turn.1.1 in
-    let now = rw (between_step s t left pair two front) at g.2 in
+    let steps = c.in-Some.ensures.steps in
+    let g = c.loop-pair.invariant in
+    let turn = turned s t (length s) _ (windows_rest c.loop-pair.pair-iterator) pair _ g.0 g.1 steps.1.0 steps.1.1 steps.1.2 in
+    let now = rw turn.step at g.2 in
     let none : (t (get_or pair 0 0) || t (get_or pair 1 0)) ≡ false = rw (c.if-is_peak-between.false, c.if-is_peak-between-2.false) in
-    (turn.0 ∙ g.0, rw turn.1.2 (between_rest s t left pair two front (length s) g.1), rw turn.1.2 (pick_no _ _ _ _ now none))
+    (steps.0 ∙ g.0, turn.rises, pick_no _ _ _ _ now none)
 
 pub loop-second-init : goal.loop-second-init
 loop-second-init c =

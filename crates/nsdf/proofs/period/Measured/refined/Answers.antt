@@ -1,6 +1,6 @@
--- `refined` meets its contract. Assumes nothing.
+-- `Measured::refined` meets its contract. Assumes nothing.
 use Rattle.nsdf.specs.Period.{refined}
-use Rattle.nsdf.proofs.period.refined.Goals as goal
+use Rattle.nsdf.proofs.period.Measured.refined.Goals as goal
 
 pub returns : goal.returns
 unfolding refined
