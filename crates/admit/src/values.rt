@@ -39,7 +39,7 @@ pub fn settings_admitted(p: Settings) -> bool
 }
 
 // Whether every entry of a list passes a test, which is asked of each entry, so that the loop has no branch but its own: `all`
-// stops at the first that fails, and takes 1.4 times as long on a track from 0 to 1, as long on dB.
+// stops at the first that fails, and takes 1.4 times as long on a track from 0 to 1, 0.9 times on dB.
 fn every<T: Copy, F: Fn(T) -> bool>(xs: &[T], test: F) -> bool
     requires { F.IsAlwaysCallable test }
     ensures { (p : _) → All (λ x. (b : _) → F.post test x b → b ≡ p x) xs.now → result ≡ all_of p xs.now }

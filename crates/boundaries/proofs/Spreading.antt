@@ -25,6 +25,12 @@ use Rattle.boundaries.specs.Edges.{filled, in_creak}
 use Rattle.boundaries.specs.Minima.{in_long_span}
 use Rattle.lists.proofs.Windows.{FirstTwo, first_two, next_rises}
 
+-- ---- a list of zeros
+pub get_or_zeros : (n i : ℕ) → ◌≡◌ {A = ℕ} (get_or (replicate n 0) i 0) 0
+get_or_zeros zero i = refl
+get_or_zeros (suc n) zero = refl
+get_or_zeros (suc n) (suc i) = get_or_zeros n i
+
 -- ---- a walk that marks frames: those that are marked, and the test that is left to spread, are the whole test
 pub record Spreading (whole rest : ℕ → Bool) (m : List Bool) : Type 0 where
   pub size : length m ≡ 2048

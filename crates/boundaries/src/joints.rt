@@ -49,7 +49,8 @@ fn joint_of(between: Part<'_>, runs: &[Span], dip: f32) -> Joint
     lowest_joint(between)
 }
 
-// Tries a frame if it lies strictly inside the region. No range: one that leaves out its first end too has no form.
+// Tries a frame if it lies strictly inside the region. By hand: the range `b.start + 1..b.end` would ask that `b.start` is below
+// the largest usize.
 fn add_inside(at: u32, b: Bounds, kept: &mut Kept)
     requires { b.end ≤ 2048 }
     ensures { AddedInTurn (filter (inner b.start b.end) (at ∷ [])) kept.old kept.new }

@@ -89,6 +89,7 @@ fn mark_pitches(db: &[f32], pitch: &mut [f32], vowel: &[u8], samples: &[i16], p:
     ensures { pitch.new ≡ repaired (recovered pitch.old samples.now
         (marks_of db.now p) vowel.now) }
 {
+    // A table and its part: each frame has an entry, which is written at its place; there is no heap.
     let mut speech = [0u8; MAX_FRAMES];
     speech_frames(db, p, &mut speech);
     recover_pitch(pitch, samples, &speech[..db.len()], vowel);

@@ -52,7 +52,7 @@ impl<'a> Input<'a> {
         rest(self.floats, from)
     }
 
-    // The fields from one on, as far as a take has frames.
+    // The fields from one on, where they are no more than a take has frames; else none.
     pub fn frames_from(self, from: usize) -> &'a [f32]
         ensures { length result.now ≤ 2048 }
     {

@@ -215,7 +215,7 @@ pub fn boundaries_with(
     Ok(boundaries::boundaries_with(db, pitch, voiced, start, end, nuclei, p, out))
 }
 
-// Writes the boundaries of start..end under the defaults, and answers how many.
+// Writes the boundaries of start..end under the defaults, and answers how many: an entry of its own, as in C.
 pub fn boundaries(
     db: &[f32],
     pitch: &[f32],

@@ -28,7 +28,7 @@ fn skip_blocks<F: Fn(usize) -> bool>(test: &F, i: usize, n: usize) -> usize
         first_in p result (n - result) ≡ first_in p i (n - i) }
 {
     let mut at = i;
-    // A `while`: `step_by` would also give the last block that is not whole.
+    // A `while`: it answers where the whole blocks end, which a `for` over `step_by` does not leave.
     while BLOCK <= n.saturating_sub(at) {
         if any_passes(test, at) {
             return at;

@@ -63,7 +63,8 @@ impl Measured {
         }
     }
 
-    // Higher than on its left, and at least as high as on its right.
+    // Higher than on its left, and at least as high as on its right. That k has a neighbour on either side is a `requires` here and
+    // below and no type: k is a number of a loop, of `find`, and of what `find` gives.
     fn is_peak(&self, k: usize) -> bool
         requires { (0 < k) × (k < 199) }
         ensures { result ≡ is_peak self.now.at k }

@@ -30,6 +30,7 @@ fn recover_tried(pitch: &mut [f32], samples: &[i16], speech: &[u8], vowel: &[u8]
         speech,
         vowel,
     };
+    // A table and its part: each frame has an entry, which is written at its place; there is no heap.
     let mut found = [None; 2048];
     let found = &mut found[..pitch.len()];
     estimates(track, samples, found);

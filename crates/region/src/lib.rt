@@ -109,6 +109,7 @@ pub fn floor_db(db: &[f32]) -> Option<f32>
     requires { length db.now ≤ 2048 }
     ensures { result ≡ floor_of db.now }
 {
+    // A table and its part: each frame has an entry, which is written at its place; there is no heap.
     let mut keys = [0u32; 2048];
     finite_keys(db, &mut keys);
     // how many are finite: the others have the last key there is

@@ -101,7 +101,7 @@ fn list_marks(
     )
 }
 
-// Lends the result lists, each as long as the take needs.
+// Lends the result lists, each as long as the take needs: parts of tables, since there is no heap.
 fn with_lists(
     given: &[f32],
     db: &[f32],
@@ -161,7 +161,7 @@ fn on_tracks(
     with_lists(given, db, pitch, voiced, sonority, vowel, p)
 }
 
-// Lends the tracks, each as long as the take.
+// Lends the tracks, each as long as the take: parts of tables, since there is no heap.
 fn with_tracks(file: &[u8]) -> Page<LARGEST_LISTING>
     requires file_bound { (frame_count file.now ≤ 2048) × (19 + 17 * frame_count file.now ≤ length file.now) }
     ensures { result ≡ text_of (unsampled (take_in file.now)) }

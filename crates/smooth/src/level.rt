@@ -95,6 +95,7 @@ pub fn smoothed_db(db: &[f32], out: &mut [f32])
     requires { (length db.now ≤ length out.old) × (length db.now ≤ 2048) }
     ensures { out.new ≡ overlay (levels db.now) out.old }
 {
+    // A table and its part: each frame has an entry, which is written at its place; there is no heap.
     let mut c = [0.0f32; 2048];
     clean_all(db, &mut c);
     all_means(&c[..db.len()], out);
