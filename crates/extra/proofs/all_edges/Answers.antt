@@ -13,7 +13,7 @@ use Rattle.extra.specs.Extra.{edges_between}
 use Rattle.extra.proofs.Edging.{between_few, turned, between_over}
 use Rattle.extra.specs.Seconds.{edge_of}
 use Rattle.extra.proofs.all_edges.Goals as goal
-use Rattle.extra.proofs.all_edges.Goals.{then-is_peak-between-via-then-is_peak-between, then-is_peak-between-via-else-is_peak-between+then-is_peak-between-2}
+use Rattle.extra.proofs.all_edges.Goals.{Joined-then-is_peak-between, then-is_peak-between-via-then-is_peak-between, then-is_peak-between-via-else-is_peak-between+then-is_peak-between-2}
 
 pub loop-pair-init : goal.loop-pair-init
 loop-pair-init c = rw (c.into_iter-pair-iterator.ensures.into_iter_gives, c.windows-pair-items.ensures.size, c.windows-pair-items.ensures.rest, c.clear.ensures) (refl, c.requires.1, refl)
@@ -28,6 +28,14 @@ overflow_cast-extremum_middle c =
     let turn = turned s t (length s) _ (windows_rest c.loop-pair.pair-iterator) pair _ g.0 g.1 steps.1.0 steps.1.1 steps.1.2 in
     omega (arith, c.extremum_middle.ensures, (middle_within Min s (get_or pair 0 0) (get_or pair 1 0) (omega (arith, turn.order.0)) turn.order.1).1)
 
+-- one of the two anchors is a peak
+one_peak : (c : Joined-then-is_peak-between) → (mark_at c.args.is_peak.now (get_or c.in-Some.pair.now 0 0) || mark_at c.args.is_peak.now (get_or c.in-Some.pair.now 1 0)) ≡ true
+one_peak c =
+    elim c.then-is_peak-between.branch [
+      | then-is_peak-between-via-then-is_peak-between w ↦ rw w.if-is_peak-between.true
+      | then-is_peak-between-via-else-is_peak-between+then-is_peak-between-2 w ↦ rw (w.if-is_peak-between.false, w.if-is_peak-between-2.true)
+    ]
+
 pub push-requires : goal.push-requires
 push-requires c =
     let s = c.args.s.now in
@@ -37,11 +45,7 @@ push-requires c =
     let g = c.loop-pair.invariant in
     let turn = turned s t (length s) _ (windows_rest c.loop-pair.pair-iterator) pair _ g.0 g.1 steps.1.0 steps.1.1 steps.1.2 in
     let now = rw turn.step at g.2 in
-    let one : (t (get_or pair 0 0) || t (get_or pair 1 0)) ≡ true =
-    elim c.then-is_peak-between.branch [
-      | then-is_peak-between-via-then-is_peak-between w ↦ rw w.if-is_peak-between.true
-      | then-is_peak-between-via-else-is_peak-between+then-is_peak-between-2 w ↦ rw (w.if-is_peak-between.false, w.if-is_peak-between-2.true)
-    ] in
+    let one = one_peak (goal.at.push-requires c).Joined-then-is_peak-between in
     let kept = c.args.kept.now in
     let few : length (edges_between s t kept) ≤ 2560 = omega (arith, between_few s t kept, strict_few 0 (length s) kept (omega arith) c.requires.1) in
     (omega arith, pick_room _ _ _ _ now one few)
@@ -55,11 +59,7 @@ loop-pair-preserved-in-loop-pair c =
     let g = c.loop-pair.invariant in
     let turn = turned s t (length s) _ (windows_rest c.loop-pair.pair-iterator) pair _ g.0 g.1 steps.1.0 steps.1.1 steps.1.2 in
     let now = rw turn.step at g.2 in
-    let one : (t (get_or pair 0 0) || t (get_or pair 1 0)) ≡ true =
-    elim c.then-is_peak-between.branch [
-      | then-is_peak-between-via-then-is_peak-between w ↦ rw w.if-is_peak-between.true
-      | then-is_peak-between-via-else-is_peak-between+then-is_peak-between-2 w ↦ rw (w.if-is_peak-between.false, w.if-is_peak-between-2.true)
-    ] in
+    let one = one_peak (goal.at.loop-pair-preserved-in-loop-pair c).Joined-then-is_peak-between in
     (steps.0 ∙ g.0, turn.rises, rw (c.push.ensures.items, c.extremum_middle.ensures) (pick_yes _ _ _ _ now one))
 
 pub loop-pair-preserved : goal.loop-pair-preserved
