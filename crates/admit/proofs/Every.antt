@@ -1,6 +1,7 @@
 -- A test of every entry, made from the front: what is found so far and the test of what is left make up the whole. Assumes nothing.
 use Prim.Native.Nat.{ℕ, ◌+◌, ◌<◌, ◌≤◌}
 use native.Mathlib.Numerals.{add-one}
+use native.Mathlib.Omega.{arith}
 use mathlib.Core.Path.{◌≡◌, refl, sym, ◌∙◌}
 use mathlib.Core.Bool.{Bool, true, false, ◌&&◌, and_assoc}
 use mathlib.Core.List.{List, [], ◌∷◌}
@@ -19,15 +20,16 @@ whole false b h = refl
 
 -- `good` says whether the first i entries pass
 pub record Tested {A : Type 0} (t : A → Bool) (xs : List A) (good : Bool) (i : ℕ) : Type 0 where
+  pub within : i ≤ length xs
   pub split : (good && all_of t (drop i xs)) ≡ all_of t xs
 
 module _ {A : Type 0} {t : A → Bool} {xs : List A} where
   pub tested_start : Tested t xs true 0
-  tested_start = record { split = refl }
+  tested_start = record { within = omega arith; split = refl }
 
   pub tested_turn : {good b : Bool} {i : ℕ} (d : A) → i < length xs → Tested t xs good i → b ≡ t (get_or xs i d) → Tested t xs (good && b) (i + 1)
   unfolding all_of
-  tested_turn {good} {b} {i} d l h e = record { split = rw (e, add-one i, and_assoc) (rw (drop-cons xs i d l) at h.split) }
+  tested_turn {good} {b} {i} d l h e = record { within = omega arith; split = rw (e, add-one i, and_assoc) (rw (drop-cons xs i d l) at h.split) }
 
   pub tested_end : {good : Bool} {i : ℕ} → length xs ≤ i → Tested t xs good i → good ≡ all_of t xs
   unfolding all_of
@@ -42,15 +44,16 @@ module _ {A : Type 0} (t : A → Bool) where
 
 -- `good` says whether the first i entries rise below n, and `lo` is the least that may come next
 pub record Rising (n : ℕ) (xs : List ℕ) (good : Bool) (lo i : ℕ) : Type 0 where
+  pub within : i ≤ length xs
   pub split : (good && rising lo n (drop i xs)) ≡ rising 0 n xs
 
 module _ {n : ℕ} {xs : List ℕ} where
   pub rising_start : Rising n xs true 0 0
-  rising_start = record { split = refl }
+  rising_start = record { within = omega arith; split = refl }
 
   pub rising_turn : {good b : Bool} {lo next i : ℕ} → i < length xs → Rising n xs good lo i → b ≡ (leb lo (get_or xs i 0) && ltb (get_or xs i 0) n) → next ≡ get_or xs i 0 + 1 → Rising n xs (good && b) next (i + 1)
   unfolding rising
-  rising_turn {good} {b} {lo} {next} {i} l h e f = record { split = rw (e, f, add-one i, and_assoc) (rw (drop-cons xs i 0 l) at h.split) }
+  rising_turn {good} {b} {lo} {next} {i} l h e f = record { within = omega arith; split = rw (e, f, add-one i, and_assoc) (rw (drop-cons xs i 0 l) at h.split) }
 
   pub rising_end : {good : Bool} {lo i : ℕ} → length xs ≤ i → Rising n xs good lo i → good ≡ rising 0 n xs
   unfolding rising

@@ -15,7 +15,7 @@ use Rattle.lists.specs.Marks.{member}
 use Rattle.lists.proofs.Tests.{and_cases, or_cases}
 use Rattle.admit.specs.Values.{all_of}
 use Rattle.admit.specs.declared.numbers.Refusal.{Refusal}
-use Rattle.admit.specs.Numbers.{number_at, number_of, numbers_in, tests_in}
+use Rattle.admit.specs.Numbers.{number_at, number_of, numbers_by, tests_in}
 use Rattle.std.specs.Result.{IsErrAnd}
 use Rattle.std.specs.Prelude.{Result, Ok, Err}
 use Rattle.admit.proofs.Numbered.{not_zero}
@@ -75,17 +75,17 @@ unfolding first_of
 after_first n ns true h = ap (first_of ns) (h refl)
 after_first n ns false h = refl
 
--- ---- from the front: what is left after i rows says the same as the table
-module _ (table : List (Bool × Refusal)) (i : ℕ) (h : first_of (numbers_in (drop i table)) (tests_in (drop i table)) ≡ first_of (numbers_in table) (tests_in table)) where
-  pub at_failed : (d : Bool × Refusal) → i < length table → (get_or table i d).0 ≡ false → number_at (get_or table i d).1 ≡ first_of (numbers_in table) (tests_in table)
+-- ---- from the front: what is left after i rows says the same as the table, by any numbers
+module _ {T : Type 0} (number : T → ℕ) (table : List (Bool × T)) (i : ℕ) (h : first_of (numbers_by number (drop i table)) (tests_in (drop i table)) ≡ first_of (numbers_by number table) (tests_in table)) where
+  pub at_failed : (d : Bool × T) → i < length table → (get_or table i d).0 ≡ false → number (get_or table i d).1 ≡ first_of (numbers_by number table) (tests_in table)
   unfolding first_of
   at_failed d l e = rw e at (rw (drop-cons table i d l) at h)
 
-  pub past_passed : (d : Bool × Refusal) → i < length table → (get_or table i d).0 ≡ true → first_of (numbers_in (drop (i + 1) table)) (tests_in (drop (i + 1) table)) ≡ first_of (numbers_in table) (tests_in table)
+  pub past_passed : (d : Bool × T) → i < length table → (get_or table i d).0 ≡ true → first_of (numbers_by number (drop (i + 1) table)) (tests_in (drop (i + 1) table)) ≡ first_of (numbers_by number table) (tests_in table)
   unfolding first_of
   past_passed d l e = rw (add-one i) (rw e at (rw (drop-cons table i d l) at h))
 
-  pub none_failed : length table ≤ i → 0 ≡ first_of (numbers_in table) (tests_in table)
+  pub none_failed : length table ≤ i → 0 ≡ first_of (numbers_by number table) (tests_in table)
   unfolding first_of
   none_failed l = rw (drop_of_length-le table l) at h
 

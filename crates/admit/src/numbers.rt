@@ -1,7 +1,7 @@
 // The refusals, and the first of several whose test fails: what every table of refusals goes by.
-ghost use Rattle.std.specs.Prelude.{◌≡◌};
+ghost use Rattle.std.specs.Prelude.{◌≡◌, ℕ};
 ghost use Rattle.admit.specs.First.{first_of};
-ghost use Rattle.admit.specs.Numbers.{number_at, number_of, numbers_in, tests_in};
+ghost use Rattle.admit.specs.Numbers.{number_at, number_of, number_by, numbers_by, tests_in};
 
 // Why a call is refused, with the number that C callers get: lengths over the limit, lists that are not alike, what is
 // given for a parameter or in a list, too little room; and bytes of a take file that do not agree.
@@ -38,13 +38,15 @@ pub fn number(r: Result<(), Refusal>) -> u32
     }
 }
 
-// The first refusal whose test fails.
-pub fn first_failed(table: &[(bool, Refusal)]) -> Result<(), Refusal>
-    ensures { number_of result ≡ first_of (numbers_in table.now) (tests_in table.now) }
+// The first of a table's rows whose test fails, whatever numbers its rows stand for: refusals by their numbers, or numbers
+// themselves.
+pub fn first_failed<T: Copy>(table: &[(bool, T)]) -> Result<(), T>
+    ensures { (number : T → ℕ) → number_by number result ≡ first_of (numbers_by number table.now)
+        (tests_in table.now) }
 {
-    for (passed, refusal) in table {
+    for (passed, row) in table {
         if !*passed {
-            return Err(*refusal);
+            return Err(*row);
         }
     }
     Ok(())

@@ -194,7 +194,7 @@ module _ (start end cap : ℕ) where
   abbrev none : Kept
   none = record { marks = replicate 2053 false; count = 0; cap = cap }
 
-  none_taken : Taken [] none
+  pub none_taken : Taken [] none
   unfolding member
   none_taken = record { size = refl; count = refl; marks = λ i. unmarked 2053 i }
 

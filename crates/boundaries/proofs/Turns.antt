@@ -177,7 +177,7 @@ module _ (start end : ℕ) where
   voicings_sound : (pitch voicing : List Float) (skip : ℕ → Bool) → end ≤ 2048 → Each Sound (voicing_edges pitch voicing skip start end)
   voicings_sound pitch voicing skip g = each_voicing Sound start end pitch voicing skip (λ i h. record { narrow = narrow i (omega (arith, h.1)) g; held = or_fits _ (jump_fits _ _) })
 
-minima_below : (s : List Float) → Each (λ i. i < length s) (local_extrema s 0 (length s) Min)
+pub minima_below : (s : List Float) → Each (λ i. i < length s) (local_extrema s 0 (length s) Min)
 minima_below s =
     each_map (λ i. (0 ≤ i) × (i < min (length s) (length s))) (λ i. i < length s) (λ i h. omega (arith, h.1)) (local_extrema s 0 (length s) Min)
     (strict_each 0 (min (length s) (length s)) (local_extrema s 0 (length s) Min) (extrema_rise s 0 (length s) Min))

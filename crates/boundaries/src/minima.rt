@@ -12,7 +12,6 @@ use super::edges::mark_frames;
 use super::taken::Kept;
 use arrayvec::ArrayVec;
 use lists::candidates::key_of;
-use lists::first::first_from;
 use smooth::extrema::{Extremum, local_extrema, lower};
 
 // A span of more than this many frames is searched for minima.
@@ -33,13 +32,19 @@ fn climb_left(level: &[f32], i: usize) -> usize
 }
 
 // The top of the hill on the right of frame i, across flat stretches; where the track ends at the latest.
+// A loop, which asks one frame at a time: most climbs end within a few frames, and `first_from` asks 16 together.
 fn climb_right(level: &[f32], i: usize) -> usize
     requires { i < length level.now }
     ensures { (result ≡ climb_right level.now i (length level.now - 1 - i))
         × (result < length level.now) }
 {
     let last = level.len() - 1;
-    first_from(|r| !(level[r] <= level[r + 1]), i, last).unwrap_or(last)
+    for r in i..last {
+        if !(level[r] <= level[r + 1]) {
+            return r;
+        }
+    }
+    last
 }
 
 // The prominence of frame i: the level on the lower of its two hills, less its own.

@@ -85,7 +85,11 @@ impl<'a> Out<'a> {
     pub fn bytes(&mut self, bytes: &[u8]) {
         if self.len <= self.bytes.len() && bytes.len() <= self.bytes.len() - self.len {
             let end = self.len + bytes.len();
-            self.bytes[self.len..end].copy_from_slice(bytes);
+            // By index: `copy_from_slice` asks C for `memmove` here.
+            let place = &mut self.bytes[self.len..end];
+            for i in 0..bytes.len() {
+                place[i] = bytes[i];
+            }
             self.len = end;
         }
     }

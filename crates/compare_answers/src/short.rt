@@ -54,13 +54,13 @@ pub fn region(input: Input<'_>, out: &mut Out<'_>) {
     );
 }
 
-// The runs that an input has after its first field, as far as a take has frames.
+// The runs that an input has after its first field; none where there are more than a take has frames.
 fn runs_in(input: Input<'_>) -> ArrayVec<Span, 2048> {
     let mut runs = ArrayVec::new();
     for k in 0..input.bytes.len() / 8 {
         // A test and no `take(2048)` above: that each push has room was not proved with it.
         if runs.is_full() {
-            break;
+            return ArrayVec::new();
         }
         runs.push(Span {
             first: input.word(2 * k + 1),

@@ -27,7 +27,7 @@ pub fn rest<T>(xs: &[T], at: usize) -> &[T] {
 
 // The n entries from one on.
 pub fn part<T>(xs: &[T], at: usize, n: usize) -> &[T] {
-    rest(xs, at).get(..n).unwrap_or(xs)
+    xs.get(at..).and_then(|ys| ys.get(..n)).unwrap_or(xs)
 }
 
 // Every field of some bytes as an f32.

@@ -4,6 +4,7 @@ use super::out::Out;
 use super::tables::{ROOM, UNTOUCHED, first, first_mut, floats_in, part, rest, samples_in};
 use chain::Marks;
 use floats::bits::from_bits;
+use take::text::Page;
 
 // The refusal, the region and the four counts.
 fn put_found(found: Marks, out: &mut Out<'_>) {
@@ -60,5 +61,7 @@ pub fn chain(input: Input<'_>, out: &mut Out<'_>) {
 
 // What `marks` prints for a take file.
 pub fn listing(file: &[u8], out: &mut Out<'_>) {
-    out.bytes(report::marks_of(file).as_slice());
+    let mut page = Page::new();
+    report::marks_of(file, &mut page);
+    out.bytes(page.as_slice());
 }

@@ -3,9 +3,6 @@ use Prim.Native.Nat.{ℕ, zero, suc}
 use mathlib.Core.Path.{◌≡◌, refl, sym, ap, ◌∙◌, subst}
 use mathlib.Core.List.{List, []}
 use Rattle.lists.specs.Results.{Listed, overlay}
-use Rattle.admit.specs.declared.numbers.Refusal.{Refusal}
-use Rattle.admit.specs.Numbers.{number_at}
-use Rattle.admit.proofs.Numbered.{not_zero}
 use Rattle.entries.specs.Stages.{if_admitted}
 
 module _ {A : Type 0} (found instead : A) where
@@ -26,14 +23,14 @@ module _ {A B : Type 0} (f : List A → List B) (l : List A) {number : ℕ} {old
   pub lists : {new : List B} {k : ℕ} → 0 ≡ number → Listed (f l) old new k → Listed (f (if_admitted number l [])) old new k
   lists {new} {k} e h = subst (λ (l : List A). Listed (f l) old new k) (admitted_is l [] e) h
 
-  pub leaves : f [] ≡ [] → (x : Refusal) → number_at x ≡ number → Listed (f (if_admitted number l [])) old old 0
+  pub leaves : {r : ℕ} → r ≡ number → f [] ≡ [] → (r ≡ 0 → ⊥) → Listed (f (if_admitted number l [])) old old 0
   unfolding overlay
-  leaves none x e = subst (λ (k : List B). Listed k old old 0) (sym none ∙ ap f (refused_is l [] e (not_zero x))) (record { count = refl; entries = refl })
+  leaves e none n = subst (λ (k : List B). Listed k old old 0) (sym none ∙ ap f (refused_is l [] e n)) (record { count = refl; entries = refl })
 
 -- the number and one list
 module _ {A : Type 0} (l : List A) {number : ℕ} {old : List A} where
   pub finds : {new : List A} {k : ℕ} → 0 ≡ number → Listed l old new k → (0 ≡ number) × Listed (if_admitted number l []) old new k
   finds e h = (e, lists (λ (l : List A). l) l e h)
 
-  pub refuses : (x : Refusal) → number_at x ≡ number → (number_at x ≡ number) × Listed (if_admitted number l []) old old 0
-  refuses x e = (e, leaves (λ (l : List A). l) l refl x e)
+  pub refuses : {r : ℕ} → r ≡ number → (r ≡ 0 → ⊥) → (r ≡ number) × Listed (if_admitted number l []) old old 0
+  refuses e n = (e, leaves (λ (l : List A). l) l e refl n)

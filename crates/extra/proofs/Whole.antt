@@ -1,5 +1,5 @@
 -- The parts' results together are the whole's, and what a part asks for holds of the results before it. Assumes nothing.
-use Prim.Native.Nat.{ℕ, ◌<◌, ◌≤◌}
+use Prim.Native.Nat.{ℕ, ◌+◌, ◌*◌, ◌<◌, ◌≤◌}
 use mathlib.Core.Path.{◌≡◌, sym, ap, ◌∙◌}
 use mathlib.Core.List.{List, [], ◌++◌, map}
 use lib.ListN.{length, get_or, length-map}
@@ -47,9 +47,13 @@ unfolding anchors
 anchors_rise s p nuclei peaks =
     merged_rises (one_syllable s p (member peaks)) (survivor s (member peaks)) (survivor_picks s (member peaks)) (length s) (in_order (nuclei ++ peaks) (length s)) (in_order_is (nuclei ++ peaks) (length s)).rises
 
--- ---- the second syllables that a list holds
+-- ---- the second syllables of a take: one a long run at most, and each run begins 4 frames or more after the one before it
+pub seconds_fit : (pitch son : List Float) (kept : List ℕ) → 4 * length (seconds son kept (long_runs pitch)) ≤ length pitch + 3
+seconds_fit pitch son kept = omega (arith, seconds_few son kept (long_runs pitch), long_few pitch)
+
+-- so a list that holds them has no more of them than the take has frames
 pub seconds_count : {A : Type 0} (g : Second → A) (pitch son : List Float) (kept : List ℕ) {old new : List A} {j : ℕ} → Listed (map g (seconds son kept (long_runs pitch))) old new j → j ≤ length pitch
-seconds_count g pitch son kept l = omega (arith, l.count, length-map (seconds son kept (long_runs pitch)) g, seconds_few son kept (long_runs pitch), long_few pitch)
+seconds_count g pitch son kept l = omega (arith, l.count, length-map (seconds son kept (long_runs pitch)) g, seconds_fit pitch son kept)
 
 -- ---- the extras of a take
 module _ (db pitch son : List Float) (start end : ℕ) (nuclei : List ℕ) (p : Settings) where

@@ -7,12 +7,12 @@ use Rattle.input.specs.Held.{pieces_joined}
 abbrev pub longest : ℕ
 longest = 19 + 17 * 65535
 
--- what is answered: the text of the input that the pieces are cut from
-abbrev pub TextAnswered : {E : Type 0} → Result (List ℕ) E → Type 0
-TextAnswered (Err e) = Unit
-TextAnswered (Ok text) = (pieces : List (List ℕ)) × (text ≡ printed (pieces_joined pieces))
+-- what is on the page where the answer is no error: the text of the input that the pieces are cut from
+abbrev pub TextAnswered : {A E : Type 0} → List ℕ → Result A E → Type 0
+TextAnswered text (Err e) = Unit
+TextAnswered text (Ok x) = (pieces : List (List ℕ)) × (text ≡ printed (pieces_joined pieces))
 
--- what is answered where the bytes of the input are known: their text
-abbrev pub TextOf : {E : Type 0} → List ℕ → Result (List ℕ) E → Type 0
-TextOf came (Err e) = Unit
-TextOf came (Ok text) = text ≡ printed came
+-- what is on the page where the bytes of the input are known: their text
+abbrev pub TextOf : {A E : Type 0} → List ℕ → List ℕ → Result A E → Type 0
+TextOf came text (Err e) = Unit
+TextOf came text (Ok x) = text ≡ printed came

@@ -9,6 +9,7 @@ ghost use Rattle.input.specs.Reading.{Stopped, StoppedIn};
 ghost use Rattle.report.specs.Shown.{printed};
 ghost use Rattle.marks.specs.Answer.{longest, TextAnswered, TextOf};
 
+use admit::numbers::number;
 use input::Input;
 use std::env::Env;
 use std::io;
@@ -28,43 +29,43 @@ fn read_file<R: Read>(reader: &mut R, file: &mut [u8]) -> io::Result<Input>
     input::read_all(reader, file, LONGEST)
 }
 
-// What is printed for an input of which the file has the first bytes. One that is longer than every take is refused, and its
-// head and size tell by which number.
-fn tell(file: &[u8], total: usize) -> Page<LARGEST_LISTING>
+// Leaves on a page what is printed for an input of which the file has the first bytes. One that is longer than every take is
+// refused, and its head and size tell by which number.
+fn tell(file: &[u8], total: usize, page: &mut Page<LARGEST_LISTING>)
     requires { largest ≤ length file.now }
-    ensures { (came : List ℕ) → Holds came file.now total → result ≡ printed came }
+    ensures { (came : List ℕ) → Holds came file.now total → page.new ≡ printed came }
 {
     if total <= file.len() {
-        return report::marks_of(&file[..total]);
-    }
-    match take_refusal(file, total) {
-        Err(refusal) => refused(refusal),
-        // No take is longer than what is held.
-        Ok(()) => unreachable!(),
+        report::marks_of(&file[..total], page);
+    } else {
+        refused(number(take_refusal(file, total)), page);
     }
 }
 
-// Reads the input, and answers what is printed for it. Past the longest file that does not depend on what was left unread.
-fn answer<R: Read>(reader: &mut R) -> io::Result<Page<LARGEST_LISTING>>
-    ensures pieces { TextAnswered result }
+// Reads the input, and leaves on a page what is printed for it. Past the longest file that does not depend on what was left
+// unread.
+fn answer<R: Read>(reader: &mut R, page: &mut Page<LARGEST_LISTING>) -> io::Result<()>
+    ensures pieces { TextAnswered page.new result }
     ensures known { IfSome (R.remaining reader.old)
-        (λ came. ((i : ℕ) → get_or came i 0 < 256) → TextOf came result) }
+        (λ came. ((i : ℕ) → get_or came i 0 < 256) → TextOf came page.new result) }
 {
     // Room for the largest take; the bytes past it are only counted.
     let mut file = [0u8; 34835];
     // Two arms that read alike: that what was left unread has no say is a proof of its own, for the second alone.
     match read_file(reader, &mut file)? {
-        Input::Whole(total) => Ok(tell(&file, total)),
-        Input::Longer(total) => Ok(tell(&file, total)),
+        Input::Whole(total) => tell(&file, total, page),
+        Input::Longer(total) => tell(&file, total, page),
     }
+    Ok(())
 }
 
 // Reads standard input and prints what is to be printed for it.
 fn mark_input(rt: &(impl io::Input + Print + Eprint)) {
-    let Ok(page) = answer(&mut rt.reader()) else {
+    let mut page = Page::new();
+    if answer(&mut rt.reader(), &mut page).is_err() {
         let _ = rt.eprint("marks: standard input could not be read\n");
         return;
-    };
+    }
     if rt.write_all(page.as_slice()).is_err() {
         let _ = rt.eprint("marks: the listing could not be written\n");
     }

@@ -11,6 +11,7 @@ use mir.Syntax.{w64}
 use mir.Val.{SFits, to_z, of_z}
 use mir.ValLaws.{to_z-of_z}
 use Rattle.nsdf.proofs.Whole.{small, abs_add, abs_mul}
+use Rattle.floats.specs.Plain.{zero_f}
 use Rattle.nsdf.specs.Nsdf.{cross, power, square, normalised, nsdf}
 
 -- ---- of no pair
@@ -104,3 +105,8 @@ module _ (w : List ℤ) (lag : ℕ) (x : ℤ) (e : ℕ) (x-is : x ≡ cross w (d
   pub sums_give : normalised (to_z w64 (of_z w64 x)) e ≡ nsdf w lag
   unfolding nsdf
   sums_give = rw (back, x-is, e-is)
+
+-- without squares, as without a pair
+pub no_squares : (w : List ℤ) (lag : ℕ) → power w (drop lag w) ≡ 0 → zero_f ≡ nsdf w lag
+unfolding nsdf
+no_squares w lag e = rw e

@@ -44,38 +44,41 @@ fn shift(a: f64, b: f64, c: f64) -> f64
 }
 
 // The periodicity of a window at lags 31 to 230, that of lag 31 + k at k; 0 at those that leave no pair.
-#[derive(Drop)]
-struct Measured {
-    at: [f64; 200],
+fn measure(window: Window<'_>) -> [f64; 200]
+    ensures { result ≡ measured window.entry.samples.now }
+{
+    let sums = window.running_sums();
+    let squares = Squares {
+        window,
+        sums: &sums,
+    };
+    array::from_fn(
+        |k|
+            requires { k < 200 }
+        { squares.nsdf(FIRST_LAG + k) },
+    )
 }
 
-impl Measured {
-    fn of(window: Window<'_>) -> Measured
-        ensures { result.at ≡ measured window.entry.samples.now }
-    {
-        let squares = Squares::of(window);
-        Measured {
-            at: array::from_fn(
-                |k|
-                    requires { k < 200 }
-                { squares.nsdf(FIRST_LAG + k) },
-            ),
-        }
-    }
+// Such values, to look for a peak among. They are lent, as running sums are: a list that is moved is copied.
+#[derive(Clone, Copy)]
+struct Measured<'a> {
+    at: &'a [f64; 200],
+}
 
+impl Measured<'_> {
     // Higher than on its left, and at least as high as on its right. That k has a neighbour on either side is a `requires` here and
     // below and no type: k is a number of a loop, of `find`, and of what `find` gives.
-    fn is_peak(&self, k: usize) -> bool
+    fn is_peak(self, k: usize) -> bool
         requires { (0 < k) × (k < 199) }
-        ensures { result ≡ is_peak self.now.at k }
+        ensures { result ≡ is_peak self.entry.at.now k }
     {
         self.at[k] > self.at[k - 1] && self.at[k] >= self.at[k + 1]
     }
 
     // The value of the highest peak: minus infinity where there is none. No `Option`: the search begins with it, and like any value
     // below 0.6 it gives no pitch, so a `None` would be a second way to say the same.
-    fn best_peak(&self) -> f64
-        ensures { result ≡ best_peak self.now.at }
+    fn best_peak(self) -> f64
+        ensures { result ≡ best_peak self.entry.at.now }
     {
         let mut best = f64::NEG_INFINITY;
         for k in 1..199 {
@@ -87,32 +90,32 @@ impl Measured {
     }
 
     // A peak that is not below `least`.
-    fn is_near(&self, least: f64, k: usize) -> bool
+    fn is_near(self, least: f64, k: usize) -> bool
         requires { (0 < k) × (k < 199) }
-        ensures { result ≡ is_near self.now.at least k }
+        ensures { result ≡ is_near self.entry.at.now least k }
     {
         self.is_peak(k) && self.at[k] >= least
     }
 
     // The first such peak: the shortest lag.
-    fn first_peak(&self, least: f64) -> Option<usize>
-        ensures { result ≡ first_peak self.now.at least }
+    fn first_peak(self, least: f64) -> Option<usize>
+        ensures { result ≡ first_peak self.entry.at.now least }
     {
         (1..199).find(|k| self.is_near(least, *k))
     }
 
     // The lag of the peak at k, moved by at most half a sample to the top of the parabola.
-    fn refined(&self, k: usize) -> f64
+    fn refined(self, k: usize) -> f64
         requires { (0 < k) × (k < 199) }
-        ensures { result ≡ refined self.now.at k }
+        ensures { result ≡ refined self.entry.at.now k }
     {
         let by = shift(self.at[k - 1], self.at[k], self.at[k + 1]);
         (FIRST_LAG + k) as f64 + clamped(by)
     }
 
     // The pitch of the first peak that reaches 0.9 of the best, rounded. None where the best is below 0.6 or there is no peak.
-    fn estimated(&self) -> Option<f64>
-        ensures { result ≡ estimated self.now.at }
+    fn estimated(self) -> Option<f64>
+        ensures { result ≡ estimated self.entry.at.now }
     {
         let best = self.best_peak();
         if best < MIN_PERIODICITY {
@@ -135,5 +138,6 @@ pub fn period_hz(samples: &[i16], centre: usize) -> Option<f64>
     let window = Window {
         samples: &samples[start..end],
     };
-    Measured::of(window).estimated()
+    let at = measure(window);
+    Measured { at: &at }.estimated()
 }

@@ -23,6 +23,10 @@ impl Window<'_> {
         requires squares_bound { squares ≤ 2 ^ 40 }
         ensures { result ≡ nsdf self.entry.samples.now lag }
     {
+        // Without a pair, or without energy, no product is asked for.
+        if squares == 0 {
+            return 0.0;
+        }
         normalised(self.cross(lag), squares)
     }
 

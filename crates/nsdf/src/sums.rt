@@ -60,7 +60,7 @@ impl<'a> Window<'a> {
 
     // At each i, up to the window's length, the squares of the first i samples, added up. Entries past it are free.
     // Written by index: a loop over `iter_mut().zip` takes 1.4 times as long.
-    fn running_sums(self) -> [u64; 513]
+    pub fn running_sums(self) -> [u64; 513]
         ensures { Running self.entry.samples.now result }
     {
         let mut sums = [0u64; 513];
@@ -73,24 +73,16 @@ impl<'a> Window<'a> {
     }
 }
 
-// A window with its running sums of squares, which serve every lag.
-#[derive(Drop)]
+// A window with its running sums of squares, which serve every lag. They are lent: a table that is moved into the struct is
+// copied, which takes as long as all else where a window has few samples.
+#[derive(Clone, Copy)]
 pub struct Squares<'a> {
     pub window: Window<'a>,
-    sums: [u64; 513],
-    ghost running: { Running window.samples.now sums },
+    pub sums: &'a [u64; 513],
+    pub ghost running: { Running window.samples.now sums.now },
 }
 
-impl<'a> Squares<'a> {
-    pub fn of(window: Window<'a>) -> Squares<'a>
-        ensures { result.window.samples.now ≡ window.entry.samples.now }
-    {
-        Squares {
-            window,
-            sums: window.running_sums(),
-        }
-    }
-
+impl Squares<'_> {
     // What `Window::power` gives: the squares of the samples that have a later partner, and of those that have an earlier one.
     pub fn power(&self, lag: usize) -> u64
         ensures value { result ≡ power self.now.window.samples.now (drop lag self.now.window.samples.now) }

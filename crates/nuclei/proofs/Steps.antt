@@ -111,11 +111,11 @@ module _ (s : List Float) (b : Bounds) (dip : Float) (r : Span) {lo hi : ℕ} (e
   no_part h = rw (le-ltb (part_first b r) (part_end b r) (omega arith))
 
   module _ (h : lo < hi) {top : ℕ} (q : top ≡ argmax_middle s lo (hi - 1)) where
-    top_is : top ≡ top_of s b r
+    pub top_is : top ≡ top_of s b r
     unfolding top_of
     top_is = q ∙ rw (e, f)
 
-    top_stands : {stands : Bool} → stands ≡ stands_alone s b dip top → stands ≡ has_top s b dip r
+    pub top_stands : {stands : Bool} → stands ≡ stands_alone s b dip top → stands ≡ has_top s b dip r
     unfolding has_top
     top_stands a = rw (lt-ltb (part_first b r) (part_end b r) (omega arith)) (a ∙ ap (stands_alone s b dip) top_is)
 

@@ -23,7 +23,7 @@ use Rattle.recover.proofs.Walking.{none_starts, next_starts, first_after, end_ab
 use Rattle.recover.proofs.Kept.{off_island, recovered_at_lem, given_at}
 
 -- ---- the parts of the test
-island_parts : (given : List Float) (s e : ℕ) → island given s e ≡ true → (3 ≤ e - s) × (all_pitchless given (s - 3) (min 3 s) ≡ true) × (all_pitchless given e 3 ≡ true)
+pub island_parts : (given : List Float) (s e : ℕ) → island given s e ≡ true → (3 ≤ e - s) × (all_pitchless given (s - 3) (min 3 s) ≡ true) × (all_pitchless given e 3 ≡ true)
 island_parts given s e t =
     let a = and_cases (leb 3 (e - s)) (all_pitchless given (s - 3) (min 3 s) && all_pitchless given e 3) t in
     let b = and_cases (all_pitchless given (s - 3) (min 3 s)) (all_pitchless given e 3) a.1 in

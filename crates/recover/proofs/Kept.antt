@@ -1,6 +1,7 @@
 -- What recovery leaves, whatever the estimator: the track's length, every pitch that was given, and in other frames what they had or a rounded answer of the
 -- estimator. Where its answers are from 60 to 600 Hz, so are these, and the track stays one of pitches in any range around that. Assumes nothing.
 use Prim.Native.Nat.{ℕ, ◌+◌, ◌-◌, ◌*◌, ◌≤◌, ◌<◌}
+use native.Mathlib.Nat.{sub-zero}
 use native.Mathlib.Omega.{arith}
 use mathlib.Core.Path.{◌≡◌, refl, sym, ap, ap₂, ◌∙◌, subst}
 use mathlib.Core.Bool.{Bool, true, false, cond, true≢false}
@@ -16,9 +17,10 @@ use Rattle.floats.specs.Plain.{zero_f}
 use Rattle.floats.specs.Narrow.{narrow}
 use Rattle.floats.proofs.Narrow.{narrow_value}
 use Rattle.lists.specs.By.{Each}
-use Rattle.lists.specs.Frames.{at, some_frame}
+use Rattle.lists.specs.Frames.{at, some_frame, first_in}
 use Rattle.lists.proofs.Tests.{not_holds}
 use Rattle.lists.proofs.Walks.{some_at}
+use Rattle.lists.proofs.Firsts.{first_none}
 use Rattle.lists.proofs.Entries.{each_at, at_each}
 use Rattle.lists.proofs.Parts.{get_d_any}
 use Rattle.lists.proofs.Tabulated.{length_tabulate, tabulate_at}
@@ -28,6 +30,7 @@ use Rattle.powers.proofs.Ranges.{enclosed}
 use Rattle.recover.specs.Estimates.{pitchless, tried, estimates, InRange}
 use Rattle.recover.specs.Recovered.{start_of, end_of, island, stored, recovered_at, recovered_from, recovered_by}
 use Rattle.recover.proofs.Trying.{estimate_of, untried, estimate_has}
+use Rattle.recover.proofs.Finding.{none_passes}
 use Rattle.recover.proofs.Walking.{start_alone, end_alone}
 
 -- ---- a frame of a stretch that is not recovered keeps what it had
@@ -98,6 +101,12 @@ module _ (period : ℕ → Option Float) (p : List Float) (s v : List ℕ) where
       let h : i < length p = subst (λ (n : ℕ). i < n) length_recovered l in
       let e : tried p s v i ≡ false = not_holds (tried p s v i) (λ q. true≢false (sym (some_at (tried p s v) 0 (length p) i (omega arith) (omega arith) q) ∙ none)) in
       recovered_at_lem i h ∙ none_kept p (estimates period p s v) i (estimate_of period p s v i h ∙ ap (λ (b : Bool). cond b (period (160 * i)) None) e) ∙ given_at i h)
+
+  -- which a search from the front tells
+  pub unfound_kept : first_in (tried p s v) 0 (length p) ≡ None → recovered_by period p s v ≡ p
+  unfound_kept e =
+      let none = first_none (tried p s v) 0 (length p) (ap (first_in (tried p s v) 0) (sub-zero (length p)) ∙ e) in
+      untried_kept (none_passes (tried p s v) 0 (length p) (λ i a b. none i a (omega arith)))
 
 -- ---- rounding to f32 keeps a pitch in the range, whose ends are f32 values
 rounded_range : (a c : ℕ) → 0 < c → 60 * c ≤ a * 1 → a * 1 ≤ 600 * c → Between 60 600 (round binary32 false a c)

@@ -1,3 +1,5 @@
+pub mod Held
+pub mod Finding
 pub mod Trying
 pub mod Walking
 pub mod Settling

@@ -8,15 +8,18 @@
 pub mod estimates;
 pub mod stretches;
 
-ghost use Rattle.std.specs.Prelude.{◌≡◌, ◌≤◌, length};
+ghost use Rattle.std.specs.Prelude.{◌≡◌, ℕ, ◌≤◌, ◌<◌, false, length};
+ghost use Rattle.recover.specs.Estimates.{tried};
 ghost use Rattle.recover.specs.Recovered.{recovered};
 
-use estimates::{Marked, estimates};
+use estimates::{Estimate, Marked, estimates};
 use stretches::recover_stretches;
 
-// The recovery of a track in which some frame is tried.
-fn recover_tried(pitch: &mut [f32], samples: &[i16], speech: &[u8], vowel: &[u8])
-    requires { length pitch.old ≤ 2048 }
+// The recovery of a track in which no frame before the first is tried.
+fn recover_tried(pitch: &mut [f32], samples: &[i16], speech: &[u8], vowel: &[u8], first: usize)
+    requires pitch_len_bound { length pitch.old ≤ 2048 }
+    requires first_within { first ≤ length pitch.old }
+    requires untried { (i : ℕ) → i < first → tried pitch.old speech.now vowel.now i ≡ false }
     ensures { pitch.new ≡ recovered pitch.old samples.now speech.now
         vowel.now }
 {
@@ -30,10 +33,11 @@ fn recover_tried(pitch: &mut [f32], samples: &[i16], speech: &[u8], vowel: &[u8]
         speech,
         vowel,
     };
-    // A table and its part: each frame has an entry, which is written at its place; there is no heap.
-    let mut found = [None; 2048];
+    // A table and its part: each frame has an entry, which is written at its place; there is no heap. Those before the first are
+    // none already.
+    let mut found = [Estimate::of(None); 2048];
     let found = &mut found[..pitch.len()];
-    estimates(track, samples, found);
+    estimates(track, samples, &mut found[first..]);
     recover_stretches(found, given, pitch);
 }
 
@@ -50,7 +54,7 @@ pub fn recover_pitch(pitch: &mut [f32], samples: &[i16], speech: &[u8], vowel: &
         vowel,
     };
     // Where none is, the tables are not made.
-    if track.has_tried() {
-        recover_tried(pitch, samples, speech, vowel);
+    if let Some(first) = track.first_tried() {
+        recover_tried(pitch, samples, speech, vowel, first);
     }
 }

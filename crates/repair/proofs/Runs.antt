@@ -47,11 +47,11 @@ module _ (pitch : List Float) (r : Span) (a : Pitches 40 2000 pitch) (l : LongIn
       (λ i h. pitched_at 40 2000 pitch a i (omega (arith, h.1, l.order, l.within)) h.2)
       (voiced_in pitch r) (each_keep (voiced pitch) r.first (r.last + 1 - r.first))
 
-  frames_rise : StrictlyRises 0 (length pitch) (voiced_in pitch r)
+  pub frames_rise : StrictlyRises 0 (length pitch) (voiced_in pitch r)
   unfolding voiced_in
   frames_rise = strict_from 0 r.first (length pitch) (voiced_in pitch r) (omega arith) (keep_rises (voiced pitch) (length pitch) r.first (r.last + 1 - r.first) (omega (arith, l.order, l.within)))
 
-  gathered : (keys : List ℕ) → keys ≡ map (key_at pitch) (voiced_in pitch r) → Gathered pitch (voiced_in pitch r) keys
+  pub gathered : (keys : List ℕ) → keys ≡ map (key_at pitch) (voiced_in pitch r) → Gathered pitch (voiced_in pitch r) keys
   gathered keys e = record { rises = frames_rise; several = omega (arith, l.frames); pitched = frames_pitched; places = e }
 
 -- ---- the voiced frames of a run, one after the other

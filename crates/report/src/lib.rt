@@ -18,10 +18,10 @@ use take::told::Told;
 
 mod answered;
 
-// The listing of what a call of the chain answered, or that it refused.
-fn show(given: &[f32], call: Answered<'_>) -> Page<LARGEST_LISTING>
+// Leaves on a page the listing of what a call of the chain answered, or that it refused.
+fn show(given: &[f32], call: Answered<'_>, page: &mut Page<LARGEST_LISTING>)
     requires { length given.now ≡ length call.pitch.now }
-    ensures { result ≡ shown given.now (left_in call.entry) }
+    ensures { page.new ≡ shown given.now (left_in call.entry) }
 {
     match call.answer {
         Ok(m) => {
@@ -29,7 +29,7 @@ fn show(given: &[f32], call: Answered<'_>) -> Page<LARGEST_LISTING>
             let b = m.extras.min(call.xframes.len());
             let c = m.edges.min(call.edges.len());
             let d = m.boundaries.min(call.bounds.len());
-            listing(Told {
+            let told = Told {
                 given,
                 left: call.pitch,
                 region: m.region,
@@ -39,13 +39,14 @@ fn show(given: &[f32], call: Answered<'_>) -> Page<LARGEST_LISTING>
                 extra_strengths: &call.xstrengths[..b],
                 edges: &call.edges[..c],
                 boundaries: &call.bounds[..d],
-            })
+            };
+            listing(told, page);
         }
-        Err(refusal) => refused(refusal),
+        Err(refusal) => refused(u32::from(refusal), page),
     }
 }
 
-// Runs the chain without samples on lent tracks and result lists, and gives the listing.
+// Runs the chain without samples on lent tracks and result lists, and leaves the listing on a page.
 // What is written is lent one by one, here and below: a call that is lent two lists of one struct is refused; what is only
 // read goes with it, as the chain takes it.
 fn list_marks(
@@ -62,11 +63,12 @@ fn list_marks(
     xstrengths: &mut [f32],
     edges: &mut [u32],
     bounds: &mut [u32],
-) -> Page<LARGEST_LISTING>
+    page: &mut Page<LARGEST_LISTING>,
+)
     requires given_len { (length given.now ≡ length pitch.old)
         × Fitting (length pitch.old)
         (lists_of frames.old strengths.old xframes.old xstrengths.old edges.old bounds.old) }
-    ensures { result ≡ shown given.now
+    ensures { page.new ≡ shown given.now
         (chain_of (take_of db.now pitch.old voiced.now sonority.now vowel.now
         [] p) (lists_of frames.old strengths.old xframes.old xstrengths.old
         edges.old bounds.old)) }
@@ -98,7 +100,8 @@ fn list_marks(
             edges,
             bounds,
         },
-    )
+        page,
+    );
 }
 
 // Lends the result lists, each as long as the take needs: parts of tables, since there is no heap.
@@ -110,9 +113,10 @@ fn with_lists(
     sonority: &[f32],
     vowel: &[u8],
     p: Settings,
-) -> Page<LARGEST_LISTING>
+    page: &mut Page<LARGEST_LISTING>,
+)
     requires given_value { (given.now ≡ pitch.old) × (length pitch.old ≤ 2048) }
-    ensures { result ≡ text_of
+    ensures { page.new ≡ text_of
         (take_of db.now pitch.old voiced.now sonority.now vowel.now [] p) }
 {
     let n = pitch.len();
@@ -137,7 +141,8 @@ fn with_lists(
         &mut xstrengths[..n],
         &mut edges[..n],
         &mut bounds[..n + 1],
-    )
+        page,
+    );
 }
 
 // Reads a take to lent tracks, its pitches twice, since the chain changes them.
@@ -149,22 +154,23 @@ fn on_tracks(
     voiced: &mut [f32],
     sonority: &mut [f32],
     vowel: &mut [u8],
-) -> Page<LARGEST_LISTING>
+    page: &mut Page<LARGEST_LISTING>,
+)
     requires file_bound { (frame_count file.now ≤ 2048) × (19 + 17 * frame_count file.now ≤ length file.now) }
     requires db_len { (length db.old ≡ frame_count file.now) × (length pitch.old ≡ frame_count file.now)
         × (length voiced.old ≡ frame_count file.now) × (length sonority.old ≡ frame_count file.now)
         × (length vowel.old ≡ frame_count file.now) × (length given.old ≡ frame_count file.now) }
-    ensures { result ≡ text_of (unsampled (take_in file.now)) }
+    ensures { page.new ≡ text_of (unsampled (take_in file.now)) }
 {
     read_track(file, 4, given);
     let p = read_take(file, db, pitch, voiced, sonority, vowel);
-    with_lists(given, db, pitch, voiced, sonority, vowel, p)
+    with_lists(given, db, pitch, voiced, sonority, vowel, p, page);
 }
 
 // Lends the tracks, each as long as the take: parts of tables, since there is no heap.
-fn with_tracks(file: &[u8]) -> Page<LARGEST_LISTING>
+fn with_tracks(file: &[u8], page: &mut Page<LARGEST_LISTING>)
     requires file_bound { (frame_count file.now ≤ 2048) × (19 + 17 * frame_count file.now ≤ length file.now) }
-    ensures { result ≡ text_of (unsampled (take_in file.now)) }
+    ensures { page.new ≡ text_of (unsampled (take_in file.now)) }
 {
     let n = frames_in(file);
     let mut given = [0.0f32; 2048];
@@ -181,15 +187,16 @@ fn with_tracks(file: &[u8]) -> Page<LARGEST_LISTING>
         &mut voiced[..n],
         &mut sonority[..n],
         &mut vowel[..n],
-    )
+        page,
+    );
 }
 
-// What `marks` prints for a file.
-pub fn marks_of(file: &[u8]) -> Page<LARGEST_LISTING>
-    ensures { result ≡ printed file.now }
+// Leaves on a page what `marks` prints for a file, and nothing else.
+pub fn marks_of(file: &[u8], page: &mut Page<LARGEST_LISTING>)
+    ensures { page.new ≡ printed file.now }
 {
-    if let Err(refusal) = take_refusal(file, file.len()) {
-        return refused(refusal);
+    match take_refusal(file, file.len()) {
+        Ok(()) => with_tracks(file, page),
+        Err(refusal) => refused(u32::from(refusal), page),
     }
-    with_tracks(file)
 }

@@ -1,5 +1,5 @@
--- Voiced, long and syllable runs stand in order in their track, more than 3 frames apart, so that a list of a quarter of the track's length has room for them; and a dropout
--- is more than 3 frames wide. Assumes nothing.
+-- Voiced, long and syllable runs stand in order in their track, more than 3 frames apart, so that a list of a quarter of the track's length, rounded up, has room for
+-- them; and a dropout is more than 3 frames wide. Assumes nothing.
 use Prim.Native.Nat.{ℕ, ◌+◌, ◌-◌, ◌*◌, ◌≤◌, ◌<◌}
 use native.Mathlib.Omega.{arith}
 use mathlib.Core.Path.{◌≡◌, refl}
@@ -93,7 +93,7 @@ module _ (pitch : List Float) where
   unfolding syllable_runs
   syllable_spaced = grouped_spaced 0 (length pitch) (long_runs pitch) long_spaced
 
-  -- ---- a list of a quarter of the track's length has room
+  -- ---- a list of a quarter of the track's length, rounded up, has room
   pub voiced_few : 4 * length (voiced_runs pitch) ≤ length pitch + 3
   voiced_few = omega (arith, rw length-map at (spaced_few 0 (length pitch) (map span (voiced_runs pitch)) (omega arith) voiced_spaced))
 

@@ -1,15 +1,17 @@
--- Digits of a number: how many they are, and that the library writes them. Assumes nothing.
+-- Digits of a number: how many they are, that none is a capital, and that the library writes them. Assumes nothing.
 use Prim.Native.Nat.{ℕ, zero, suc, ◌*◌, ◌/◌, ◌%◌, ◌^◌, ◌≤◌, ◌<◌}
 use native.Mathlib.Omega.{arith}
 use native.Mathlib.Nat.{pow-suc}
-use mathlib.Core.Path.{◌≡◌, refl, ap, ◌∙◌}
+use mathlib.Core.Path.{◌≡◌, refl, ap, ap₂, ◌∙◌}
 use mathlib.Core.Bool.{Bool, true, false, ◌&&◌}
-use mathlib.Core.List.{List, [], ◌∷◌, ◌++◌, append_assoc, append-nil}
+use mathlib.Core.List.{List, [], ◌∷◌, ◌++◌, map, append_assoc, append-nil}
 use lib.Dec.{ltb, eqb}
 use borrow.Author.Count.{below_more}
 use Rattle.lists.proofs.Tests.{and_cases}
 use borrow.Author.Tests.{lt-ltb, le-ltb, ltb-true, ltb-false, eq-eqb, ne_eqb, eqb-true}
 use lib.ListN.{length, get_or, length-append}
+use Rattle.std.specs.Char.{to_ascii_lowercase}
+use Rattle.std.proofs.lemmas.List.{map-append}
 use Rattle.std.specs.Fmt.{digits, digits_onto, digit_glyph}
 use Rattle.std.specs.Int.{w32, to_be_bytes}
 use Rattle.hex.specs.Hex.{encode_with, encode_lower, lower_digits}
@@ -65,6 +67,18 @@ below_each t zero e d h = absurd (omega (arith, h))
 below_each t (suc k) e d h =
     let p = and_cases (t k) (below t k) e in
     below_more (λ (i : ℕ). t i ≡ true) k (below_each t k p.1) p.0 d (omega (arith, h))
+
+-- no digit is a capital
+small : (d : ℕ) → d < 16 → to_ascii_lowercase (glyph d) ≡ glyph d
+unfolding glyph below
+small d h = eqb-true _ _ (below_each (λ (k : ℕ). eqb (to_ascii_lowercase (glyph k)) (glyph k)) 16 refl d h)
+
+pub hex_small : (k n : ℕ) → map to_ascii_lowercase (hex_digits k n) ≡ hex_digits k n
+unfolding hex_digits
+hex_small zero n = refl
+hex_small (suc k) n =
+    map-append to_ascii_lowercase (hex_digits k (n / 16)) (glyph (n % 16) ∷ [])
+    ∙ ap₂ ◌++◌ (hex_small k (n / 16)) (ap (λ (g : ℕ). g ∷ []) (small (n % 16) (omega arith)))
 
 -- the library's digits of a byte
 half_same : (d : ℕ) → d < 16 → get_or lower_digits d 0 ≡ glyph d

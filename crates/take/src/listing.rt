@@ -1,7 +1,7 @@
 // The lines of a listing, written to a page one after another.
+// A page is lent and not returned: it has room for every listing, and one that is returned is copied by each caller.
 ghost use Rattle.std.specs.Prelude.{◌≡◌, cond, [], ◌++◌, ◌+◌, ◌≤◌, length};
 ghost use Rattle.take.specs.Listing.{marks_told, repitched, pitch_word, frame_line, mark_line, frame_lines, mark_lines, pitch_lines, region_line, listing, refused_listing};
-ghost use Rattle.admit.specs.Numbers.{number_at};
 
 use super::text::Page;
 use super::told::Told;
@@ -9,7 +9,6 @@ use super::told::Told;
 // The bytes of the longest listing of a take.
 pub const LARGEST_LISTING: usize = 237617;
 
-use admit::numbers::Refusal;
 use region::Region;
 
 // A word and a number.
@@ -97,28 +96,26 @@ fn region_line<const N: usize>(region: Option<Region>, page: &mut Page<N>)
     }
 }
 
-// The listing, on a page of its own.
+// Leaves the listing on a page, and nothing else.
 #[tactic(auto, unfolding(crate::specs::Listing::listing))]
-pub fn listing<const N: usize>(t: Told<'_>) -> Page<N>
+pub fn listing<const N: usize>(t: Told<'_>, page: &mut Page<N>)
     requires { length (listing (marks_told t)) ≤ N }
-    ensures { result ≡ listing (marks_told t.entry) }
+    ensures { page.new ≡ listing (marks_told t.entry) }
 {
-    let mut page = Page::new();
-    pitch_lines(t, &mut page);
-    region_line(t.region, &mut page);
-    mark_lines(b"nucleus", t.frames, t.strengths, &mut page);
-    mark_lines(b"extra", t.extra_frames, t.extra_strengths, &mut page);
-    frame_lines(b"extra-edge", t.edges, &mut page);
-    frame_lines(b"boundary", t.boundaries, &mut page);
-    page
+    page.clear();
+    pitch_lines(t, page);
+    region_line(t.region, page);
+    mark_lines(b"nucleus", t.frames, t.strengths, page);
+    mark_lines(b"extra", t.extra_frames, t.extra_strengths, page);
+    frame_lines(b"extra-edge", t.edges, page);
+    frame_lines(b"boundary", t.boundaries, page);
 }
 
-// The listing of a refused take likewise.
-pub fn refused<const N: usize>(refusal: Refusal) -> Page<N>
-    requires { length (refused_listing (number_at refusal)) ≤ N }
-    ensures { result ≡ refused_listing (number_at refusal) }
+// The listing of a refused take likewise, by the refusal's number.
+pub fn refused<const N: usize>(number: u32, page: &mut Page<N>)
+    requires { length (refused_listing number) ≤ N }
+    ensures { page.new ≡ refused_listing number }
 {
-    let mut page = Page::new();
-    frame_line(b"refused", u32::from(refusal), &mut page);
-    page
+    page.clear();
+    frame_line(b"refused", number, page);
 }

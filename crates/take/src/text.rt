@@ -28,6 +28,13 @@ impl<const N: usize> Page<N> {
         }
     }
 
+    // Takes back all that is written.
+    pub fn clear(&mut self)
+        ensures { self.new ≡ [] }
+    {
+        self.bytes.clear();
+    }
+
     pub fn as_slice(&self) -> &[u8]
         ensures { result.now ≡ self.now }
     {
@@ -45,7 +52,10 @@ impl<const N: usize> Page<N> {
         requires { length self.old + length text.now ≤ N }
         ensures { self.new ≡ self.old ++ text.now }
     {
-        self.bytes.try_extend_from_slice(text).unwrap();
+        // One by one: a text is a few bytes long, and the library's copy asks C for `memmove`.
+        for b in text {
+            self.byte(*b);
+        }
     }
 
     // A space and a decimal number.

@@ -10,7 +10,7 @@ use Rattle.extra.specs.Unpitched.{unpitched_peaks}
 use Rattle.extra.specs.Extra.{extras_from, edges_from, extra_frames, extra_edges}
 use Rattle.extra.proofs.Voiceless.{peaks_rise}
 use Rattle.extra.proofs.Anchoring.{marked_is}
-use Rattle.extra.proofs.Whole.{anchors_rise}
+use Rattle.extra.proofs.Whole.{anchors_rise, seconds_fit}
 use Rattle.extra.proofs.extras_over.Goals as goal
 use Rattle.extra.proofs.extras_over.Goals.{After-merged}
 
@@ -36,10 +36,10 @@ second_syllables-requires c = (
 )
 
 pub all_frames-requires : goal.all_frames-requires
-all_frames-requires c = (rw c.deref-4.ensures.0 (kept_short (goal.at.all_frames-requires c).After-merged), omega arith)
+all_frames-requires c = (rw c.deref-4.ensures.0 (kept_short (goal.at.all_frames-requires c).After-merged), rw (c.deref-5.ensures.0 ∙ c.second_syllables.ensures) (omega (arith, seconds_fit, c.requires.same_length)))
 
 pub all_edges-requires : goal.all_edges-requires
-all_edges-requires c = (c.requires.same_length.0, rw c.deref-7.ensures.0 (kept_rises (goal.at.all_edges-requires c).After-merged), omega arith)
+all_edges-requires c = (c.requires.same_length.0, rw c.deref-7.ensures.0 (kept_rises (goal.at.all_edges-requires c).After-merged), rw (c.deref-8.ensures.0 ∙ c.second_syllables.ensures) (omega (arith, seconds_fit, c.requires.same_length)))
 
 pub returns : goal.returns
 unfolding extra_frames extra_edges extras_from edges_from

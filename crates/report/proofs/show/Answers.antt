@@ -1,8 +1,8 @@
 -- `report::show` meets its contract: the entries that are listed are those of the text. Assumes nothing.
 use native.Mathlib.Omega.{arith}
-use mathlib.Core.Path.{◌∙◌}
-use Rattle.admit.specs.Numbers.{number_at}
+use mathlib.Core.Path.{ap, ◌∙◌}
 use Rattle.take.proofs.Sizes.{refused_fits}
+use Rattle.take.specs.Listing.{refused_listing}
 use Rattle.report.specs.Answered.{lists_in}
 use Rattle.report.proofs.Parts.{front_fits, front_shown, refused_shown}
 use Rattle.report.proofs.show.Goals as goal
@@ -16,7 +16,7 @@ listing-requires c =
     )
 
 pub refused-requires : goal.refused-requires
-refused-requires c = (omega arith, omega (arith, refused_fits (number_at c.in-Err.refusal)))
+refused-requires c = (omega arith, omega (arith, refused_fits c.from.result))
 
 pub returns-in-Ok : goal.returns-in-Ok
 returns-in-Ok c =
@@ -28,4 +28,4 @@ pub returns-in-Err : goal.returns-in-Err
 returns-in-Err c =
     let a = c.args in
     let l = a.call in
-    rw c.in-Err.is (c.refused.ensures ∙ refused_shown a.given.now l.pitch.now (lists_in l) c.in-Err.refusal)
+    rw c.in-Err.is (c.refused.ensures ∙ ap refused_listing c.from.ensures ∙ refused_shown a.given.now l.pitch.now (lists_in l) c.in-Err.refusal)

@@ -2,13 +2,14 @@
 use mathlib.Core.Path.{sym}
 use Rattle.std.proofs.lemmas.Result.{err_from_is_err_and}
 use Rattle.admit.proofs.Admitted.{boundaries_with_admitted}
+use Rattle.admit.proofs.Numbered.{not_zero}
 use Rattle.entries.proofs.Entering.{finds, refuses}
 use Rattle.entries.proofs.stages.boundaries_with.Goals as goal
 
 pub returns-in_err-boundaries_with_refusal : goal.returns-in_err-boundaries_with_refusal
 returns-in_err-boundaries_with_refusal c =
     let p = err_from_is_err_and c.from_residual.result c.from_residual.ensures.1 in
-    rw (p.1, p.2) (refuses _ _ c.in_err-boundaries_with_refusal.ensures)
+    rw (p.1, p.2) (refuses _ c.in_err-boundaries_with_refusal.ensures (not_zero _))
 
 pub boundaries_with-requires : goal.boundaries_with-requires
 boundaries_with-requires c =

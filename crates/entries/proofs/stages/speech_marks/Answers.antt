@@ -4,13 +4,14 @@ use lib.ListN.{length-map}
 use Rattle.std.proofs.lemmas.Result.{err_from_is_err_and}
 use Rattle.region.specs.Speech.{mark, threshold_of}
 use Rattle.admit.proofs.Admitted.{speech_admitted}
+use Rattle.admit.proofs.Numbered.{not_zero}
 use Rattle.entries.proofs.Entering.{finds, refuses}
 use Rattle.entries.proofs.stages.speech_marks.Goals as goal
 
 pub returns-in_err-speech_refusal : goal.returns-in_err-speech_refusal
 returns-in_err-speech_refusal c =
     let p = err_from_is_err_and c.from_residual.result c.from_residual.ensures.1 in
-    rw (p.1, p.2) (refuses _ _ c.in_err-speech_refusal.ensures)
+    rw (p.1, p.2) (refuses _ c.in_err-speech_refusal.ensures (not_zero _))
 
 pub speech_frames-requires : goal.speech_frames-requires
 speech_frames-requires c =

@@ -1,5 +1,7 @@
 -- `floats::rounding::round_to_f32` meets its contract. Assumes nothing.
-use mathlib.Core.Path.{◌≡◌, refl, ◌∙◌}
+use native.Mathlib.Omega.{arith}
+use mathlib.Core.Path.{◌≡◌, refl}
+use Rattle.std.proofs.lemmas.Grind.{common_steps}
 use lib.Ieee.{Float, nan, inf, fin, binary32}
 use Rattle.std.specs.Float.{round_to_format}
 use Rattle.floats.specs.Narrow.{narrow}
@@ -12,4 +14,4 @@ same (inf s) = refl
 same (fin s m e) = refl
 
 pub returns : goal.returns
-returns c = c.nearest_f64_to_f32_with_nan.ensures ∙ same c.args.x
+returns c = grind (arith, common_steps, same)

@@ -10,5 +10,5 @@ pub returns : goal.returns
 unfolding period_hz
 returns c =
     c.estimated.ensures
-    ∙ ap estimated c.of.ensures
+    ∙ ap estimated c.measure-at.ensures
     ∙ ap (λ (w : List ℤ). estimated (measured w)) (window_part c.args.samples.now c.args.centre _ _ (omega arith) (omega arith))

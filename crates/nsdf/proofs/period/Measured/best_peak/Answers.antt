@@ -8,11 +8,11 @@ use Rattle.nsdf.proofs.period.Measured.best_peak.Goals.{then-is_peak, else-is_pe
 
 pub loop-k-init : goal.loop-k-init
 unfolding of_bits
-loop-k-init c = best_first c.args.self.now.at
+loop-k-init c = best_first c.args.self.at.now
 
 pub loop-k-preserved : goal.loop-k-preserved
 loop-k-preserved c =
-    let d = c.args.self.now.at in
+    let d = c.args.self.at.now in
     let l = c.loop-k in
     elim c.if-is_peak.branch [
       | then-is_peak w ↦ ap (λ (x : Float). best_from d x (l.k + 1)) (w.best-is ∙ w.larger-best.ensures) ∙ best_peak_lem d l.k c.loop-k-test.true l.best (sym c.is_peak.ensures ∙ w.if-is_peak.true) ∙ l.invariant
@@ -20,4 +20,4 @@ loop-k-preserved c =
     ]
 
 pub returns : goal.returns
-returns c = sym (best_last c.args.self.now.at c.loop-k.best c.loop-k.k c.loop-k-test.false) ∙ c.loop-k.invariant
+returns c = sym (best_last c.args.self.at.now c.loop-k.best c.loop-k.k c.loop-k-test.false) ∙ c.loop-k.invariant

@@ -5,4 +5,4 @@ use Rattle.nsdf.proofs.Peaks.{best_from}
 use Rattle.nsdf.proofs.period.Measured.best_peak.Given as goal
 
 abbrev pub invariant-loop-k : goal.invariant-loop-k
-invariant-loop-k l = best_from l.self.at l.best l.k ≡ best_peak l.self.at
+invariant-loop-k l = best_from l.self.at.now l.best l.k ≡ best_peak l.self.at.now

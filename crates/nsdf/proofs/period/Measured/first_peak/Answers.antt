@@ -8,6 +8,6 @@ use Rattle.nsdf.proofs.period.Measured.first_peak.Goals as goal
 pub returns : goal.returns
 unfolding first_peak
 returns c =
-    let t = is_near c.args.self.now.at c.args.least in
+    let t = is_near c.args.self.at.now c.args.least in
     first_of t c.find.result 1 198
     (first_from_Range _ _ _ _ (λ k. t k ≡ true) (λ k. t k ≡ false) c.find.ensures.ran (λ x q k. search (rules, tests)) (λ x q k. search (rules, tests)))

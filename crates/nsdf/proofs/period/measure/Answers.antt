@@ -1,9 +1,9 @@
--- `Measured::of` meets its contract: what the library answers of the lags. Assumes nothing.
+-- `period::measure` meets its contract: what the library answers of the lags. Assumes nothing.
 use Rattle.std.proofs.Common.{rules, tests, ◌+◌}
 use Rattle.nsdf.specs.Nsdf.{nsdf}
 use Rattle.nsdf.specs.Period.{measured}
 use Rattle.nsdf.proofs.Peaks.{list_of_calls}
-use Rattle.nsdf.proofs.period.Measured.of.Goals as goal
+use Rattle.nsdf.proofs.period.measure.Goals as goal
 
 pub returns : goal.returns
 unfolding measured
